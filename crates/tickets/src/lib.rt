@@ -2,6 +2,7 @@
 pub mod board;
 pub mod pair;
 pub mod tops;
+
 pub use board::Board;
 pub use board::OBJECTS;
 pub use pair::Pair;
