@@ -2,7 +2,6 @@
 pub mod board;
 pub mod pair;
 pub mod tops;
-
 pub use board::Board;
 pub use board::OBJECTS;
 pub use pair::Pair;
