@@ -1,0 +1,3 @@
+pub mod Others
+mod One
+mod Halves
