@@ -1,3 +1,2 @@
 pub mod Others
 mod One
-mod Halves

@@ -3,7 +3,7 @@ use mathlib.Core.Path.{_≡_}
 use mathlib.Core.Bool.{cond}
 use mathlib.Core.List.{List, [], _∷_}
 use Prim.Native.Nat.{ℕ, min}
-use lib.Dec.{ltb}
+use lib.Dec.{ltb, eqb}
 use lib.ListN.{length, getD, set}
 use Rattle.std.specs.declared.result.Result.{Result}
 use Rattle.std.specs.declared.result.Result.the-variants.{Ok, Err}
@@ -41,8 +41,6 @@ pub record Others (k : ℕ) (before after : List StoreModel) : Type 0 where
 abbrev pub told-count : List StoreModel → ℕ
 told-count ms = min (length ms) 256
 
--- a fault under the replica number that the caller gave
-abbrev pub renumbered : {A : Type 0} → ℕ → Result A BankFault → Result A BankFault
-renumbered k (Ok x) = Ok x
-renumbered k (Err (NoReplica i)) = Err (NoReplica k)
-renumbered k (Err (At i e)) = Err (At k e)
+-- a bank of one has replica 0 alone
+abbrev pub only-answer : ℕ → Result (Unit {0}) BankFault
+only-answer k = cond (eqb k 0) (Ok tt) (Err (NoReplica k))

@@ -3,6 +3,7 @@ ghost use mathlib.Core.Path.{_≡_};
 ghost use Rattle.std.specs.Results.{Cases};
 ghost use Rattle.std.specs.declared.result.Result.the-variants.{Ok, Err};
 ghost use Rattle.banks.specs.declared.fault.BankFault.the-variants.{At};
+ghost use Rattle.banks.specs.Model.{lifted};
 use stores::StoreFault;
 use stores::fault::StoreFaultDebug;
 use stores::fault::StoreFaultEq;
@@ -30,4 +31,11 @@ pub fn tagged<T, E, C: Drop>(tag: C, r: Result<T, E>) -> Result<T, (C, E)>
         Ok(x) => Ok(x),
         Err(e) => Err((tag, e)),
     }
+}
+
+/// What a store answered, as its bank answers it.
+pub fn at_replica<T>(replica: u8, r: Result<T, StoreFault>) -> Result<T, BankFault>
+    ensures answer { λ s. ⌜ s ≡ lifted replica r ⌝ }
+{
+    Ok(tagged(replica, r)?)
 }

@@ -1,13 +1,10 @@
 // A bank of stores: a store's interface with a replica number in front.
 pub mod api;
-pub mod beside;
 pub mod fault;
 pub mod single;
 pub mod work;
 
 pub use api::Bank;
-pub use beside::Beside;
-pub use beside::BesideBank;
 pub use fault::BankFault;
 pub use fault::BankFaultFromStore;
 pub use fault::tagged;

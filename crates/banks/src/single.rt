@@ -1,11 +1,10 @@
 // A store is a bank of one: its replica is 0.
 ghost use mathlib.Core.Path.{_≡_};
 ghost use mathlib.Core.List.{List, [], _∷_};
-ghost use Rattle.banks.specs.Replicas.{only-answer};
+ghost use Rattle.banks.specs.Model.{only-answer};
 use crate::api::Bank;
 use crate::fault::BankFault;
-use crate::fault::BankFaultFromStore;
-use crate::fault::tagged;
+use crate::fault::at_replica;
 use stores::Store;
 use tickets::Pair;
 
@@ -27,12 +26,12 @@ pub impl<S: Store> Bank for S as StoreBank {
 
     fn begin(&mut self, replica: u8, place: usize) -> Result<(), BankFault> {
         only(replica)?;
-        Ok(tagged(replica, Store::begin(self, place))?)
+        at_replica(replica, Store::begin(self, place))
     }
 
     fn read(&self, replica: u8, place: usize, object: usize) -> Result<u32, BankFault> {
         only(replica)?;
-        Ok(tagged(replica, Store::read(self, place, object))?)
+        at_replica(replica, Store::read(self, place, object))
     }
 
     fn write(
@@ -43,12 +42,12 @@ pub impl<S: Store> Bank for S as StoreBank {
         value: u32,
     ) -> Result<(), BankFault> {
         only(replica)?;
-        Ok(tagged(replica, Store::write(self, place, object, value))?)
+        at_replica(replica, Store::write(self, place, object, value))
     }
 
     fn own_count(&self, replica: u8, place: usize) -> Result<u32, BankFault> {
         only(replica)?;
-        Ok(tagged(replica, Store::own_count(self, place))?)
+        at_replica(replica, Store::own_count(self, place))
     }
 
     fn own_from(
@@ -58,22 +57,22 @@ pub impl<S: Store> Bank for S as StoreBank {
         object: usize,
     ) -> Result<Option<Pair>, BankFault> {
         only(replica)?;
-        Ok(tagged(replica, Store::own_from(self, place, object))?)
+        at_replica(replica, Store::own_from(self, place, object))
     }
 
     fn commit(&mut self, replica: u8, place: usize) -> Result<(), BankFault> {
         only(replica)?;
-        Ok(tagged(replica, Store::commit(self, place))?)
+        at_replica(replica, Store::commit(self, place))
     }
 
     fn abort(&mut self, replica: u8, place: usize) -> Result<(), BankFault> {
         only(replica)?;
-        Ok(tagged(replica, Store::abort(self, place))?)
+        at_replica(replica, Store::abort(self, place))
     }
 
     fn value(&self, replica: u8, object: usize) -> Result<u32, BankFault> {
         only(replica)?;
-        Ok(tagged(replica, Store::value(self, object))?)
+        at_replica(replica, Store::value(self, object))
     }
 
     fn commits(&self, replica: u8) -> Result<u32, BankFault> {
@@ -83,6 +82,6 @@ pub impl<S: Store> Bank for S as StoreBank {
 
     fn is_open(&self, replica: u8, place: usize) -> Result<bool, BankFault> {
         only(replica)?;
-        Ok(tagged(replica, Store::is_open(self, place))?)
+        at_replica(replica, Store::is_open(self, place))
     }
 }

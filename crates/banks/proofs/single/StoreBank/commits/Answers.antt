@@ -1,11 +1,18 @@
-use borrow.Author.Needs.{needs}
-use Rattle.banks.specs.Model.{asked}
+use mathlib.Core.Path.{refl, ap}
+use Rattle.std.specs.declared.result.Result.the-variants.{Ok}
+use Rattle.banks.proofs.One.{only-answered, none-answer}
 use Rattle.banks.proofs.single.StoreBank.commits.Needs as need
 
 pub returns-in-Break-only : need.returns-in-Break-only
-unfolding asked
-returns-in-Break-only g c = search needs
+returns-in-Break-only g c =
+    let m = g .S·Store .meaning (c .args .self .now) in
+    let k = c .args .replica in
+    let z = c .in-Break-only .ensures tt .answer in
+    record { answer = none-answer m k z _ (c .from-residual .ensures .1) }
 
 pub returns : need.returns
-unfolding asked
-returns g c = search needs
+returns g c =
+    let m = g .S·Store .meaning (c .args .self .now) in
+    let k = c .args .replica in
+    let z = c .in-Continue-only .ensures tt .answer in
+    record { answer = only-answered m k z _ refl (ap (λ x. Ok x) (c .commits .ensures .answer)) }

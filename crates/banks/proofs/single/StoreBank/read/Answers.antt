@@ -1,15 +1,16 @@
-use borrow.Author.Needs.{needs}
-use Rattle.banks.specs.Model.{asked}
+use Rattle.banks.proofs.One.{only-answered, none-answer}
 use Rattle.banks.proofs.single.StoreBank.read.Needs as need
 
 pub returns-in-Break-only : need.returns-in-Break-only
-unfolding asked
-returns-in-Break-only g c = search needs
-
-pub returns-in-Break-tagged : need.returns-in-Break-tagged
-unfolding asked
-returns-in-Break-tagged g c = search needs
+returns-in-Break-only g c =
+    let m = g .S·Store .meaning (c .args .self .now) in
+    let k = c .args .replica in
+    let z = c .in-Break-only .ensures tt .answer in
+    record { answer = none-answer m k z _ (c .from-residual .ensures .1) }
 
 pub returns : need.returns
-unfolding asked
-returns g c = search needs
+returns g c =
+    let m = g .S·Store .meaning (c .args .self .now) in
+    let k = c .args .replica in
+    let z = c .in-Continue-only .ensures tt .answer in
+    record { answer = only-answered m k z _ (c .at-replica .ensures .answer) (c .read .ensures .answer) }

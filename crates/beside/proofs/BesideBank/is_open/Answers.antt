@@ -1,5 +1,5 @@
-use Rattle.banks.proofs.Halves.{left-answer, right-answer}
-use Rattle.banks.proofs.beside.BesideBank.own_count.Needs as need
+use Rattle.beside.proofs.Halves.{left-answer, right-answer}
+use Rattle.beside.proofs.BesideBank.is_open.Needs as need
 
 pub returns-in-Left : need.returns-in-Left
 returns-in-Left g c =
@@ -7,7 +7,7 @@ returns-in-Left g c =
     let rs = g .R·Bank .stores (c .args .self .now .right) in
     let k = c .args .replica in
     let s = c .in-Left .ensures tt .answer in
-    record { answer = left-answer ls rs k s _ (c .own-count .ensures .answer) }
+    record { answer = left-answer ls rs k s _ (c .is-open .ensures .answer) }
 
 pub returns-in-Right : need.returns-in-Right
 returns-in-Right g c =
@@ -16,4 +16,4 @@ returns-in-Right g c =
     let k = c .args .replica in
     let i = c .in-Right .there in
     let s = c .in-Right .ensures tt .answer in
-    record { answer = right-answer ls rs k i s _ (c .under .ensures .answer) (c .own-count-in-Right .ensures .answer) }
+    record { answer = right-answer ls rs k i s _ (c .under .ensures .answer) (c .is-open-in-Right .ensures .answer) }

@@ -1,7 +1,7 @@
 use native.Mathlib.Omega.{arith}
 use lib.ListN.{length-append}
-use Rattle.banks.proofs.Halves.{both-lawful}
-use Rattle.banks.proofs.beside.BesideBank.the-impl.Needs as need
+use Rattle.beside.proofs.Halves.{both-lawful}
+use Rattle.beside.proofs.BesideBank.the-impl.Needs as need
 
 pub some-law : need.some-law
 some-law g b = simp length-append (omega (arith, g .L·Bank·met .some (b .left)))

@@ -1,6 +1,6 @@
 use native.Mathlib.Omega.{arith}
 use lib.ListN.{length-append}
-use Rattle.banks.proofs.beside.BesideBank.count.Needs as need
+use Rattle.beside.proofs.BesideBank.count.Needs as need
 
 pub returns-then-both-lt256 : need.returns-then-both-lt256
 returns-then-both-lt256 g c = record { answer = simp length-append (omega arith) }

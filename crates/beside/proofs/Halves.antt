@@ -13,12 +13,12 @@ use Rattle.std.specs.declared.result.Result.{Result}
 use Rattle.std.specs.declared.result.Result.the-variants.{Ok, Err}
 use Rattle.stores.specs.declared.fault.StoreFault.{StoreFault}
 use Rattle.stores.specs.Model.{StoreModel, Lawful}
 use Rattle.banks.specs.declared.fault.BankFault.{BankFault}
 use Rattle.banks.specs.declared.fault.BankFault.the-variants.{NoReplica, At}
-use Rattle.banks.specs.declared.beside.Side.{Side}
-use Rattle.banks.specs.declared.beside.Side.the-variants.{Left, Right}
-use Rattle.banks.specs.Model.{no-store, store-at, lifted, asked, changed, renumbered}
-use Rattle.banks.specs.Replicas.{side-of}
+use Rattle.beside.specs.declared.Side.{Side}
+use Rattle.beside.specs.declared.Side.the-variants.{Left, Right}
+use Rattle.banks.specs.Model.{no-store, store-at, lifted, asked, changed}
+use Rattle.beside.specs.Sides.{side-of, renumbered}
 
 -- ---- on the left
 

@@ -1,5 +1,5 @@
-use Rattle.banks.proofs.Halves.{left-answer, right-answer}
-use Rattle.banks.proofs.beside.BesideBank.own_from.Needs as need
+use Rattle.beside.proofs.Halves.{left-answer, right-answer}
+use Rattle.beside.proofs.BesideBank.own_from.Needs as need
 
 pub returns-in-Left : need.returns-in-Left
 returns-in-Left g c =

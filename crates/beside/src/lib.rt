@@ -2,10 +2,9 @@
 ghost use mathlib.Core.Path.{_≡_};
 ghost use mathlib.Core.List.{List, _++_};
 ghost use lib.ListN.{length};
-ghost use Rattle.banks.specs.Model.{renumbered};
-ghost use Rattle.banks.specs.Replicas.{side-of};
-use crate::api::Bank;
-use crate::fault::BankFault;
+ghost use Rattle.beside.specs.Sides.{side-of, renumbered};
+use banks::Bank;
+use banks::BankFault;
 use tickets::Pair;
 
 #[derive(Drop)]

@@ -1,6 +1,6 @@
 use Rattle.banks.proofs.Others.{others-by}
-use Rattle.banks.proofs.Halves.{left-answer, left-after, right-answer, right-after}
-use Rattle.banks.proofs.beside.BesideBank.abort.Needs as need
+use Rattle.beside.proofs.Halves.{left-answer, left-after, right-answer, right-after}
+use Rattle.beside.proofs.BesideBank.abort.Needs as need
 
 pub returns-in-Left : need.returns-in-Left
 returns-in-Left g c =
