@@ -10,6 +10,9 @@ ghost use Rattle.banks.specs.Model.{store-at, asked, changed, Others, told-cou
 use crate::fault::BankFault;
 use tickets::Pair;
 
+/// The most stores that a bank tells of: as many as a byte can number.
+pub const MOST_TOLD: usize = 256;
+
 pub trait Bank {
     ghost stores: { Self → List StoreModel };
 

@@ -23,8 +23,8 @@ pub impl From<(u8, StoreFault)> for BankFault as BankFaultFromStore {
     }
 }
 
-/// What was answered, with what a layer adds beside the fault.
-pub fn tagged<T, E, C: Drop>(tag: C, r: Result<T, E>) -> Result<T, (C, E)>
+// What was answered, with a tag beside the fault.
+fn tagged<T, E, C: Drop>(tag: C, r: Result<T, E>) -> Result<T, (C, E)>
     ensures answer { λ s. ⌜ Cases s (λ x. r ≡ Ok x) (λ e. (e .0 ≡ tag) × (r ≡ Err (e .1))) ⌝ }
 {
     match r {
@@ -33,8 +33,8 @@ pub fn tagged<T, E, C: Drop>(tag: C, r: Result<T, E>) -> Result<T, (C, E)>
     }
 }
 
-/// What a store answered, as its bank answers it.
-pub fn at_replica<T>(replica: u8, r: Result<T, StoreFault>) -> Result<T, BankFault>
+// What a store answered, as its bank answers it.
+pub(crate) fn at_replica<T>(replica: u8, r: Result<T, StoreFault>) -> Result<T, BankFault>
     ensures answer { λ s. ⌜ s ≡ lifted replica r ⌝ }
 {
     Ok(tagged(replica, r)?)

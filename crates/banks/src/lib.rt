@@ -5,9 +5,9 @@ pub mod single;
 pub mod work;
 
 pub use api::Bank;
+pub use api::MOST_TOLD;
 pub use fault::BankFault;
 pub use fault::BankFaultFromStore;
-pub use fault::tagged;
 pub use single::StoreBank;
 pub use work::Unfinished;
 pub use work::Work;

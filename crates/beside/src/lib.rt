@@ -5,6 +5,7 @@ ghost use lib.ListN.{length};
 ghost use Rattle.beside.specs.Sides.{side-of, renumbered};
 use banks::Bank;
 use banks::BankFault;
+use banks::MOST_TOLD;
 use tickets::Pair;
 
 #[derive(Drop)]
@@ -47,8 +48,7 @@ pub impl<L: Bank, R: Bank> Bank for Beside<L, R> as BesideBank {
     ghost stores = { λ b. L·Bank .stores (b .left) ++ R·Bank .stores (b .right) };
 
     fn count(&self) -> usize {
-        let both = self.left.count() + self.right.count();
-        if both < 256 { both } else { 256 }
+        (self.left.count() + self.right.count()).min(MOST_TOLD)
     }
 
     fn begin(&mut self, replica: u8, place: usize) -> Result<(), BankFault> {
