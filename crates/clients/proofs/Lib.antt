@@ -1,0 +1,4 @@
+mod Pairs
+mod Writes
+mod Settles
+mod Landing

@@ -1,0 +1,3 @@
+pub mod Committed
+pub mod Steps
+pub mod Races

@@ -1,0 +1,7 @@
+// Clients of a store and of a bank, written and proved once for every kind of either.
+pub mod race;
+mod store_client;
+
+pub use race::Order;
+pub use race::Race;
+pub use store_client::write_and_commit;
