@@ -1,0 +1,4 @@
+pub mod Pairs
+pub mod Counts
+pub mod Lowest
+pub mod Held
