@@ -1,2 +1,5 @@
 pub mod Pairs
 pub mod Writes
+pub mod Histories
+pub mod Links
+pub mod Chained
