@@ -18,7 +18,7 @@ use Rattle.tickets.specs.declared.pair.Pair.{Pair}
 use Rattle.versions.specs.declared.own_writes.OwnWrites.{OwnWrites}
 use Rattle.versions.specs.Pairs.{own-in, each-once, no-pair, lower-from}
 use Rattle.versions.specs.Writes.{own-of, count-of, set-own, held}
-use Rattle.versions.proofs.Pairs.{Wrote, headed, once-drop, own-head, own-at, write-new, write-over}
+use Rattle.versions.proofs.Pairs.{Wrote, headed-at, own-head, own-at, write-new, write-over}
 use Rattle.versions.proofs.Counts.{count-is}
 use Rattle.versions.proofs.Lowest.{first-more, first-none}
 
@@ -44,7 +44,7 @@ module _ (w : OwnWrites) where
       let in′ : i < length (held w) = omega (arith, held-length) in
       let p = getD (held w) i no-pair in
       let rest = drop (i + 1) (held w) in
-      let d = headed p rest (sym (at-drop-more each-once (held w) i no-pair in′) ∙ once-drop i (held w) (w .once)) in
+      let d = headed-at (held w) (w .once) i in′ in
       at-drop-more (λ l. first-from (own-in l) j (128 - j)) (held w) i no-pair in′
       ∙ ap (λ own. first-from own j (128 - j)) (own-head p rest)
       ∙ first-more (own-in rest) p j (d .alone) (d .below)

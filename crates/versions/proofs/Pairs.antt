@@ -43,6 +43,10 @@ once-drop zero ps e = e
 once-drop (suc i) [] e = e
 once-drop (suc i) (p ∷ ps) e = once-drop i ps (headed p ps e .rest)
 
+-- the pair at place i, and those past it
+pub headed-at : (ps : List Pair) → each-once ps ≡ true → (i : ℕ) → i < length ps → Headed (getD ps i no-pair) (drop (i + 1) ps)
+headed-at ps e i h = headed _ _ (sym (at-drop-more each-once ps i no-pair h) ∙ once-drop i ps e)
+
 -- no object from 128 on is written
 pub none-past : (ps : List Pair) → each-once ps ≡ true → (j : ℕ) → 128 ≤ j → own-in ps j ≡ None
 unfolding own-in

@@ -1,14 +1,14 @@
 // Finding, setting, counting and telling own writes.
 ghost use mathlib.Core.Path.{_≡_};
 ghost use mathlib.Core.Bool.{true, cond};
-ghost use Prim.Native.Nat.{ℕ, _-_, _<_};
-ghost use lib.ListN.{getD};
+ghost use Prim.Native.Nat.{ℕ, _-_, _<_, _≤_};
+ghost use lib.ListN.{length, getD};
 ghost use Rattle.std.specs.Options.{isSome, Cases as BySome};
 ghost use Rattle.std.specs.declared.option.Option.the-variants.{Some, None};
 ghost use Rattle.std.specs.declared.result.Result.the-variants.{Ok, Err};
 ghost use Rattle.stores.specs.Model.{no-writes, first-from, done};
-ghost use Rattle.versions.specs.Pairs.{no-pair, lower-from};
-ghost use Rattle.versions.specs.Writes.{own-of, count-of, set-own, own-left};
+ghost use Rattle.versions.specs.Pairs.{each-once, no-pair, lower-from};
+ghost use Rattle.versions.specs.Writes.{own-of, held, count-of, set-own, own-left};
 use crate::own_writes::OwnWrites;
 use stores::StoreFault;
 use tickets::OBJECTS;
@@ -23,6 +23,15 @@ impl OwnWrites {
         ensures answer { λ r. ⌜ own-of r ≡ no-writes ⌝ }
     {
         OwnWrites { pairs: [Pair { object: 0, value: 0 }; 8], count: 0 }
+    }
+
+    // The pairs, each object once.
+    pub(crate) fn pairs(&self) -> &[Pair]
+        ensures value { λ r. ⌜ now r ≡ held (now (self .entry)) ⌝ }
+        ensures once { λ r. ⌜ each-once (now r) ≡ true ⌝ }
+        ensures few { λ r. ⌜ length (now r) ≤ 8 ⌝ }
+    {
+        &self.pairs[..self.count]
     }
 
     // Where the pair of an object stands.
