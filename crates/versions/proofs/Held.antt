@@ -2,25 +2,30 @@
 use mathlib.Core.Path.{_≡_, refl, sym, ap, subst, _∙_}
 use mathlib.Core.Bool.{Bool, true, false, cond, _||_}
 use mathlib.Core.List.{List, [], _∷_, _++_}
+use mathlib.Core.Logic.{⊎-elim}
 use Prim.Native.Nat.{ℕ, _+_, _-_, _≤_, _<_}
 use native.Mathlib.Omega.{arith}
 use lib.Dec.{ltb}
 use lib.ListN.{length, getD, set, take, drop}
 use lib.Seq.{take-set-lt}
 use Rattle.std.specs.Options.{isSome}
+use Rattle.std.specs.declared.option.Option.{Option}
 use Rattle.std.specs.declared.option.Option.the-variants.{Some, None}
 use Rattle.std.specs.declared.result.Result.the-variants.{Ok, Err}
 use Rattle.std.proofs.shelf.Lists.{length-take-le, getD-take, take-more-set, at-drop-more, at-drop-all}
-use Rattle.std.proofs.shelf.Tests.{lt-ltb, le-ltb}
+use Rattle.std.proofs.shelf.Tests.{lt-ltb, le-ltb, cases-lt}
 use Rattle.stores.specs.declared.fault.StoreFault.the-variants.{NinthObject}
 use Rattle.stores.specs.Model.{with-write, first-from}
 use Rattle.tickets.specs.declared.pair.Pair.{Pair}
 use Rattle.versions.specs.declared.own_writes.OwnWrites.{OwnWrites}
 use Rattle.versions.specs.Pairs.{own-in, each-once, no-pair, lower-from}
 use Rattle.versions.specs.Writes.{own-of, count-of, set-own, held}
-use Rattle.versions.proofs.Pairs.{Wrote, headed-at, own-head, own-at, write-new, write-over}
+use Rattle.versions.proofs.Pairs.{Wrote, headed-at, none-past, own-head, own-at, write-new, write-over}
 use Rattle.versions.proofs.Counts.{count-is}
 use Rattle.versions.proofs.Lowest.{first-more, first-none}
+
+never : (o : Option ℕ) (v : ℕ) → o ≡ Some v → o ≡ None → ⊥
+never o v e n = let z : _≡_ {A = ℕ} 0 1 = cc in omega arith
 
 module _ (w : OwnWrites) where
   pub held-length : length (held w) ≡ w .count
@@ -31,6 +36,15 @@ module _ (w : OwnWrites) where
 
   pub held-count : count-of (own-of w) ≡ w .count
   held-count = count-is (held w) (w .once) ∙ held-length
+
+  pub held-few : count-of (own-of w) ≤ 8
+  held-few = omega (arith, held-count, w .few)
+
+  pub held-past : (j : ℕ) → 128 ≤ j → own-of w j ≡ None
+  held-past = none-past (held w) (w .once)
+
+  pub held-below : (j v : ℕ) → own-of w j ≡ Some v → j < 128
+  held-below j v e = ⊎-elim (λ l. l) (λ l. absurd (never (own-of w j) v e (held-past j l))) (cases-lt j 128)
 
   -- the write at place i
   pub held-own : (i j : ℕ) → i < w .count → getD (w .pairs) i no-pair .object ≡ j → own-of w j ≡ Some (getD (w .pairs) i no-pair .value)
