@@ -1,4 +1,25 @@
 // The plain board, the middleware over a bank of stores, and the law of whole queues: definitions, and the theorems about them.
-pub fn law_stands() -> u8 {
+ghost use Rattle.law.specs.Corollaries.{SnapshotIsolation, AbortsExactly, SameApplied, WholeReplica};
+ghost use Rattle.law.specs.Promise.{PlainQueue, EveryQueue};
+ghost use Rattle.law.specs.Sound.{EveryMaking, EveryOpening, EveryCall};
+
+/// The middleware answers as the plain board does, and every queue keeps the law.
+pub fn law_stands() -> u8
+    ensures making { λ _. ⌜ EveryMaking ⌝ }
+    ensures opening { λ _. ⌜ EveryOpening ⌝ }
+    ensures calls { λ _. ⌜ EveryCall ⌝ }
+    ensures queues { λ _. ⌜ EveryQueue ⌝ }
+    ensures plain { λ _. ⌜ PlainQueue ⌝ }
+{
+    0
+}
+
+/// What follows from the law.
+pub fn corollaries_stand() -> u8
+    ensures isolation { λ _. ⌜ SnapshotIsolation ⌝ }
+    ensures aborts { λ _. ⌜ AbortsExactly ⌝ }
+    ensures same { λ _. ⌜ SameApplied ⌝ }
+    ensures whole { λ _. ⌜ WholeReplica ⌝ }
+{
     0
 }
