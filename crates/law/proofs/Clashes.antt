@@ -9,8 +9,8 @@ use Rattle.std.proofs.shelf.Tests.{both-ways, eq-eqb, eqb-true, or-cases, or-le
 use Rattle.std.specs.Options.{isSome}
 use Rattle.std.specs.declared.option.Option.{Option}
 use Rattle.std.specs.declared.option.Option.the-variants.{None, Some}
-use Rattle.tickets.specs.WriteSets.{Pairs, lookup, shares, stands}
-use Rattle.law.specs.Clashes.{Clashing, clash, clash-at}
+use Rattle.tickets.specs.WriteSets.{Pairs, lookup, stands}
+use Rattle.law.specs.Clashes.{ClashAgrees, ClashIsSharing, Clashing, clash, clash-at}
 
 clash-found : (b : Bool) (v : ℕ) (o w : Option ℕ) → b ≡ true → isSome w ≡ true → clash-at (cond b (Some v) o) w ≡ true
 clash-found true v o w e h = h
@@ -41,15 +41,18 @@ clash-from ((i, v) ∷ u) w (j, e) = go (λ h. clash-from u w (j, h)) (eqb j i) 
     go ih true d h = or-left (stands w i) (clash u w) (rw (eqb-true j i d) at h)
     go ih false d h = or-right (stands w i) (clash u w) (ih h)
 
--- two writes to one object clash, and where there is a clash there are two
+pub clash-agrees : ClashAgrees
+clash-agrees u w = (clash-some u w, clash-from u w)
+
+-- any two writes to one object clash
 pub clash-both : (u w : Option ℕ) → isSome u ≡ true → isSome w ≡ true → clash-at u w ≡ true
 clash-both None w p q = p
 clash-both (Some v) w p q = q
 
 -- today's rule: write sets clash where they share an object
-pub clash-is-shares : (u w : Pairs) → clash u w ≡ shares u w
-clash-is-shares [] w = refl
-clash-is-shares ((i, v) ∷ u) w = ap (λ b. stands w i || b) (clash-is-shares u w)
+pub clash-is-sharing : ClashIsSharing
+clash-is-sharing [] w = refl
+clash-is-sharing ((i, v) ∷ u) w = ap (λ b. stands w i || b) (clash-is-sharing u w)
 
 -- the clash of functions that agree
 pub clashing-same : (u w x y : ℕ → Option ℕ) → ((j : ℕ) → u j ≡ x j) → ((j : ℕ) → w j ≡ y j) → Clashing u w → Clashing x y

@@ -13,6 +13,7 @@ use Rattle.std.specs.declared.option.Option.{Option}
 use Rattle.std.specs.declared.option.Option.the-variants.{None, Some}
 use Rattle.tickets.specs.Boards.{Board, value}
 use Rattle.tickets.specs.WriteSets.{Pairs, lookup, play}
+use Rattle.tickets.proofs.Playing.{length-play, value-play}
 use Rattle.law.specs.Applications.{drained, lacks, marked, on-number, played-at}
 use Rattle.law.specs.Numbers.{count, lowest, whole}
 use Rattle.law.specs.Orderly.{Orderly}
@@ -28,7 +29,7 @@ use Rattle.law.proofs.Layers.{layers-add, layers-front, layers-same}
 use Rattle.law.proofs.Numbers.{Found, Lowest, count-most, exactly-is, lowest-is}
 use Rattle.law.proofs.Orderly.{lowest-free, not-yet, orderly-played}
 use Rattle.law.proofs.Worlds.{replicas}
-use Rattle.law.proofs.Writes.{lookup-put, play-length, play-value}
+use Rattle.law.proofs.Writes.{lookup-put}
 
 -- the words of a queue, side by side
 pub record Said : Type 0 where
@@ -235,8 +236,8 @@ module _ (start : Board) (K : ℕ) (h : Facts) (p : Plain) (q : Kept start K (sa
       here =
           let r = q .each k b in
           record {
-            long = play-length (pairs (p .sets) n) (board p k) ∙ r .long;
-            played = λ j d. play-value (pairs (p .sets) n) (board p k) j (omega (arith, r .long)) ∙ rw (q .named n l m j, r .played j d) (sym (layers-add (is-applied h k) (write-set h) (value start) n j (given h) m l (above j)));
+            long = length-play (pairs (p .sets) n) (board p k) ∙ r .long;
+            played = λ j d. value-play (pairs (p .sets) n) (board p k) j (omega (arith, r .long)) ∙ rw (q .named n l m j, r .played j d) (sym (layers-add (is-applied h k) (write-set h) (value start) n j (given h) m l (above j)));
           }
 
       at : (i : ℕ) → i < K → (e : Bool) → eqb i k ≡ e → CopyOk start (given h) (write-set h) (λ o. e && eqb o n || is-applied h i o) (getD (set (p .boards) k after) i [])

@@ -17,3 +17,4 @@ pub mod Queues
 pub mod Opening
 pub mod Promised
 pub mod Corollaries
+pub mod Refutations

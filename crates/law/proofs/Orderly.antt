@@ -23,7 +23,7 @@ use Rattle.law.specs.Plain.TransactionState.{aborted, committed, given-up, liv
 use Rattle.law.specs.Steps.{step}
 use Rattle.law.specs.Transactions.{clashes, new-transaction, register, verdict, with-begun}
 use Rattle.law.specs.Writes.{is-empty, put, room}
-use Rattle.law.proofs.Cases.{by-check, by-tx}
+use Rattle.law.proofs.Cases.{by-check, by-transaction}
 use Rattle.law.proofs.Elements.{at-push, at-set, busy-less, marked-more, marked-new}
 use Rattle.law.proofs.Numbers.{Found, Lowest, bit, count-most, exactly-is, lowest-is, tally-push, up-to-bounds}
 use Rattle.law.proofs.Writes.{fine-set, put-fine}
@@ -278,9 +278,9 @@ module _ (p : Plain) (q : Orderly p) where
   pub orderly-step : (c : Call) → Orderly (step c p .1)
   unfolding step
   orderly-step (Begin k) = by-check Stays _ 1 p _ (λ _. q) (λ e. by-check Stays _ 26 p _ (λ _. q) (λ f. by-check Stays _ 27 p _ (λ _. q) (λ l. by-check Stays _ 28 p _ (λ _. q) (λ _. orderly-begun p q k (ltb-true k (length (p .boards)) e) f (ltb-true (busy k (p .transactions)) 15 l)))))
-  orderly-step (Read t j) = by-tx Stays t p _ (λ _. q) (λ b u l m h. by-check Stays _ 3 p _ (λ _. q) (λ _. q))
-  orderly-step (Write t j v) = by-tx Stays t p _ (λ _. q) (λ b u l m h. by-check Stays _ 3 p _ (λ _. q) (λ e. by-check Stays _ 5 p _ (λ _. q) (λ _. by-check Stays _ 30 p _ (λ _. q) (λ r. orderly-wrote p q t j v b u l m h (ltb-true j 128 e) r))))
-  orderly-step (Commit t) = by-tx Stays t p _ (λ _. q) (λ b u l m h. own b u l m h (is-empty u) refl)
+  orderly-step (Read t j) = by-transaction Stays t p _ (λ _. q) (λ b u l m h. by-check Stays _ 3 p _ (λ _. q) (λ _. q))
+  orderly-step (Write t j v) = by-transaction Stays t p _ (λ _. q) (λ b u l m h. by-check Stays _ 3 p _ (λ _. q) (λ e. by-check Stays _ 5 p _ (λ _. q) (λ _. by-check Stays _ 30 p _ (λ _. q) (λ r. orderly-wrote p q t j v b u l m h (ltb-true j 128 e) r))))
+  orderly-step (Commit t) = by-transaction Stays t p _ (λ _. q) (λ b u l m h. own b u l m h (is-empty u) refl)
     where
       judged : (b : Board) (u : Pairs) → 1 ≤ t → t ≤ length (p .transactions) → transaction p t .state ≡ live b u → is-empty u ≡ false → (r : ℕ) → Lowest (clashes (p .sets) (transaction p t .s) u) (length (p .sets)) r → Orderly (verdict r t u p .1)
       judged b u l m h e zero c = by-check Stays _ 31 p _ (λ _. q) (λ z. orderly-numbered p q t b u l m h e (ltb-true (length (p .sets)) 256 z) (unclashed (p .sets) (transaction p t .s) u (length (p .sets)) c))
@@ -289,7 +289,7 @@ module _ (p : Plain) (q : Orderly p) where
       own : (b : Board) (u : Pairs) → 1 ≤ t → t ≤ length (p .transactions) → transaction p t .state ≡ live b u → (e : Bool) → is-empty u ≡ e → Orderly (cond e (read-only, with-transaction p t (in-state committed (transaction p t))) (verdict (lowest (clashes (p .sets) (transaction p t .s) u) (length (p .sets))) t u p) .1)
       own b u l m h true e = orderly-ended p q t b u committed l m h refl
       own b u l m h false e = judged b u l m h e (lowest (clashes (p .sets) (transaction p t .s) u) (length (p .sets))) (lowest-is (clashes (p .sets) (transaction p t .s) u) (length (p .sets)))
-  orderly-step (GiveUp t) = by-tx Stays t p _ (λ _. q) (λ b u l m h. orderly-ended p q t b u given-up l m h refl)
+  orderly-step (GiveUp t) = by-transaction Stays t p _ (λ _. q) (λ b u l m h. orderly-ended p q t b u given-up l m h refl)
   orderly-step (Apply k n) = by-check Stays _ 1 p _ (λ _. q) (λ _. by-check Stays _ 4 p _ (λ _. q) (λ e. by-check Stays _ 32 p _ (λ _. q) (λ c. let b = up-to-bounds (length (p .sets)) n e in go (b .0) (b .1) (not-true (p .applied k n) c) (lowest (holds (p .applied k) (p .sets) n) (n - 1)) (lowest-is (holds (p .applied k) (p .sets) n) (n - 1)))))
     where
       go : 1 ≤ n → n ≤ length (p .sets) → p .applied k n ≡ false → (r : ℕ) → Lowest (holds (p .applied k) (p .sets) n) (n - 1) r → Orderly (unless-held r p (done, played-at k n p) .1)

@@ -10,7 +10,7 @@ use Rattle.std.proofs.shelf.Tests.{both-ways}
 use Rattle.calls.specs.declared.call.Call.{Call}
 use Rattle.tickets.specs.Boards.{Board}
 use Rattle.law.specs.History.{Answer, History, accepted, run-of}
-use Rattle.law.specs.History.Answer.{done, refused}
+use Rattle.law.specs.History.Answer.{refused}
 use Rattle.law.specs.History.Event.{event}
 use Rattle.law.specs.Law.{Law}
 use Rattle.law.specs.Opening.{LawfulBank, PlainBoard, board-open, board-step, opening, start-of}
@@ -20,7 +20,7 @@ use Rattle.law.specs.Sound.{Follows, Middle, bank-of, middle-step, new-world, 
 use Rattle.law.specs.Steps.{run, step}
 use Rattle.law.specs.Store.{Store}
 use Rattle.law.specs.World.{Picks, board-of, world-plain}
-use Rattle.law.proofs.Opening.{accepted-done, every-call, every-making, every-opening}
+use Rattle.law.proofs.Opening.{every-call, every-making, every-opening}
 use Rattle.law.proofs.Queues.{law-of-run, no-faults}
 
 -- one more call of a queue, on any machine
@@ -31,9 +31,9 @@ run-push f [] c h x = refl
 run-push f (y ∷ cs) c h x = run-push f cs c (event y (f y x .0) ∷ h) (f y x .1)
 
 -- an accepted opening, and no call yet
-pub ran-none : (bank : List Store) (a : Answer) (m : Middle) → Follows (board-open bank PlainBoard.unopened) a m → a ≡ done → Ran (start-of bank) (length bank) [] [] m
+pub ran-none : (bank : List Store) (a : Answer) (m : Middle) → Follows (board-open bank PlainBoard.unopened) a m → accepted a ≡ true → Ran (start-of bank) (length bank) [] [] m
 unfolding run-of
-ran-none bank a m f e = record { answers = refl; plain = f .after ∙ rw (ap accepted (sym (f .answer) ∙ e)); sound = f .sound }
+ran-none bank a m f e = record { answers = refl; plain = f .after ∙ rw (ap accepted (sym (f .answer)) ∙ e); sound = f .sound }
 
 -- one more call
 pub ran-more : (start : Board) (K : ℕ) (cs : List Call) (h : History) (m : Middle) (c : Call) (a : Answer) (n : Middle) → Ran start K cs h m → Follows (board-step c (plain-of m)) a n → Ran start K (cs ++ c ∷ []) (event c a ∷ h) n
@@ -65,15 +65,12 @@ served bank lawful queue h m r =
     same : map board-of (bank-of m) ≡ run queue [] (just-opened (start-of bank) (length bank)) .1 .boards
     same = bank-boards m (run queue [] (just-opened (start-of bank) (length bank)) .1) (r .plain)
 
+pub promised-served : (bank : List Store) → LawfulBank bank → (queue : List Call) (a : Answer) (h : History) (m : Middle) → a ≡ opening bank → accepted a ≡ true → Ran (start-of bank) (length bank) queue h m → Promised bank queue a h (bank-of m)
+promised-served bank lawful queue a h m e d r = record { opening = e; served = λ _. served bank lawful queue h m r; refused = λ x. absurd (both-ways (accepted a) x d) }
+
 -- a refusal answers no call and leaves the bank
-done-not-refused : (a : Answer) → a ≡ done → accepted a ≡ false → ⊥
-done-not-refused a e d = both-ways (accepted a) d (ap accepted e)
-
-pub promised-served : (bank : List Store) → LawfulBank bank → (queue : List Call) (a : Answer) (h : History) (m : Middle) → a ≡ opening bank → a ≡ done → Ran (start-of bank) (length bank) queue h m → Promised bank queue a h (bank-of m)
-promised-served bank lawful queue a h m e d r = record { opening = e; served = λ _. served bank lawful queue h m r; refused = λ x. absurd (done-not-refused a d x) }
-
 pub promised-refused : (bank : List Store) (queue : List Call) (a : Answer) → a ≡ opening bank → accepted a ≡ false → Promised bank queue a [] bank
-promised-refused bank queue a e d = record { opening = e; served = λ x. absurd (done-not-refused a x d); refused = λ _. (refl, refl) }
+promised-refused bank queue a e d = record { opening = e; served = λ x. absurd (both-ways (accepted a) d x); refused = λ _. (refl, refl) }
 
 -- the rest of a queue
 ran-on : (pick : List Bool → ℕ) → Picks pick → (start : Board) (K : ℕ) (cs made : List Call) (h : History) (m : Middle) → Ran start K made h m → Ran start K (made ++ cs) (run-of (middle-step pick) cs h m .0) (run-of (middle-step pick) cs h m .1)
@@ -91,7 +88,6 @@ every-queue pick picks bank lawful queue = go (accepted (opened-over bank .0)) r
 
     go : (b : Bool) → accepted (opened-over bank .0) ≡ b → Promised bank queue (opened-over bank .0) (run-from pick queue b (opened-over bank .1) .0) (bank-of (run-from pick queue b (opened-over bank .1) .1))
     go true e =
-        let ok : opened-over bank .0 ≡ done = accepted-done bank e in
-        promised-served bank lawful queue (opened-over bank .0) (run-of (middle-step pick) queue [] (opened-over bank .1) .0) (run-of (middle-step pick) queue [] (opened-over bank .1) .1) refl ok
-        (ran-on pick picks (start-of bank) (length bank) queue [] [] (opened-over bank .1) (ran-none bank (opened-over bank .0) (opened-over bank .1) (f .0) ok))
+        promised-served bank lawful queue (opened-over bank .0) (run-of (middle-step pick) queue [] (opened-over bank .1) .0) (run-of (middle-step pick) queue [] (opened-over bank .1) .1) refl e
+        (ran-on pick picks (start-of bank) (length bank) queue [] [] (opened-over bank .1) (ran-none bank (opened-over bank .0) (opened-over bank .1) (f .0) e))
     go false e = rw (f .1) (promised-refused bank queue (opened-over bank .0) refl e)

@@ -24,7 +24,7 @@ use Rattle.law.specs.Steps.{run, step}
 use Rattle.law.specs.Transactions.{clashes, verdict}
 use Rattle.law.specs.Words.{facts}
 use Rattle.law.specs.Writes.{is-empty}
-use Rattle.law.proofs.Cases.{by-check, by-tx}
+use Rattle.law.proofs.Cases.{by-check, by-transaction}
 use Rattle.law.proofs.Orderly.{orderly-step}
 use Rattle.law.proofs.Rights.{KeptBy, good}
 use Rattle.law.proofs.Worlds.{replicas}
@@ -81,9 +81,9 @@ module _ (p : Plain) where
   answers-no-fault : (c : Call) → is-fault (step c p .0) ≡ false
   unfolding step
   answers-no-fault (Begin k) = by-check Clean _ 1 p _ (λ _. refl) (λ _. by-check Clean _ 26 p _ (λ _. refl) (λ _. by-check Clean _ 27 p _ (λ _. refl) (λ _. by-check Clean _ 28 p _ (λ _. refl) (λ _. refl))))
-  answers-no-fault (Read t j) = by-tx Clean t p _ (λ _. refl) (λ b u l m h. by-check Clean _ 3 p _ (λ _. refl) (λ _. refl))
-  answers-no-fault (Write t j v) = by-tx Clean t p _ (λ _. refl) (λ b u l m h. by-check Clean _ 3 p _ (λ _. refl) (λ _. by-check Clean _ 5 p _ (λ _. refl) (λ _. by-check Clean _ 30 p _ (λ _. refl) (λ _. refl))))
-  answers-no-fault (Commit t) = by-tx Clean t p _ (λ _. refl) (λ b u l m h. go u (is-empty u) (lowest (clashes (p .sets) (transaction p t .s) u) (length (p .sets))))
+  answers-no-fault (Read t j) = by-transaction Clean t p _ (λ _. refl) (λ b u l m h. by-check Clean _ 3 p _ (λ _. refl) (λ _. refl))
+  answers-no-fault (Write t j v) = by-transaction Clean t p _ (λ _. refl) (λ b u l m h. by-check Clean _ 3 p _ (λ _. refl) (λ _. by-check Clean _ 5 p _ (λ _. refl) (λ _. by-check Clean _ 30 p _ (λ _. refl) (λ _. refl))))
+  answers-no-fault (Commit t) = by-transaction Clean t p _ (λ _. refl) (λ b u l m h. go u (is-empty u) (lowest (clashes (p .sets) (transaction p t .s) u) (length (p .sets))))
     where
       judged : (u : Pairs) (r : ℕ) → is-fault (verdict r t u p .0) ≡ false
       judged u zero = by-check Clean _ 31 p _ (λ _. refl) (λ _. refl)
@@ -92,7 +92,7 @@ module _ (p : Plain) where
       go : (u : Pairs) (b : Bool) (r : ℕ) → is-fault (cond b (read-only, with-transaction p t (in-state committed (transaction p t))) (verdict r t u p) .0) ≡ false
       go u true r = refl
       go u false r = judged u r
-  answers-no-fault (GiveUp t) = by-tx Clean t p _ (λ _. refl) (λ b u l m h. refl)
+  answers-no-fault (GiveUp t) = by-transaction Clean t p _ (λ _. refl) (λ b u l m h. refl)
   answers-no-fault (Apply k n) = by-check Clean _ 1 p _ (λ _. refl) (λ _. by-check Clean _ 4 p _ (λ _. refl) (λ _. by-check Clean _ 32 p _ (λ _. refl) (λ _. go (lowest (holds (p .applied k) (p .sets) n) (n - 1)))))
     where
       go : (r : ℕ) → is-fault (unless-held r p (done, played-at k n p) .0) ≡ false

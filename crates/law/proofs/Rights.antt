@@ -28,7 +28,7 @@ use Rattle.law.specs.Steps.{applied-values, state-values, step}
 use Rattle.law.specs.Transactions.{clashes, verdict}
 use Rattle.law.specs.Words.{Fact, Facts, begun, fact, given, is-applied, last-write, lowest-few, noted, snapshot, value-after, write-set}
 use Rattle.law.specs.Writes.{is-empty, listed}
-use Rattle.law.proofs.Cases.{by-check, by-tx}
+use Rattle.law.proofs.Cases.{by-check, by-transaction}
 use Rattle.law.proofs.Clashes.{clash-from, clash-some, clashing-same}
 use Rattle.law.proofs.Few.{few-count}
 use Rattle.law.proofs.Kept.{Kept, LiveOk, kept-begun, kept-drained, kept-ended, kept-numbered, kept-played, kept-wrote, said}
@@ -69,7 +69,7 @@ module _ (start : Board) (K : ℕ) (h : Facts) (p : Plain) (ord : Orderly p) (q 
 
   good-read : (t j : ℕ) → Good start K h (Read t j) (step (Read t j) p)
   unfolding step
-  good-read t j = by-tx (Fair (Read t j)) t p _ no (λ b u l m e. by-check (Fair (Read t j)) _ 3 p _ (λ _. no 3) (λ d. record { kept = q; right = λ _. right b u (own-is t b u l m e) (ltb-true j 128 d) }))
+  good-read t j = by-transaction (Fair (Read t j)) t p _ no (λ b u l m e. by-check (Fair (Read t j)) _ 3 p _ (λ _. no 3) (λ d. record { kept = q; right = λ _. right b u (own-is t b u l m e) (ltb-true j 128 d) }))
     where
       no : (n : ℕ) → Good start K h (Read t j) (refused n [], p)
       no n = record { kept = q; right = λ e. absurd (both-ways false refl e) }
@@ -80,7 +80,7 @@ module _ (start : Board) (K : ℕ) (h : Facts) (p : Plain) (ord : Orderly p) (q 
   good-write : (t j v : ℕ) → Good start K h (Write t j v) (step (Write t j v) p)
   unfolding step
   good-write t j v =
-      by-tx (Fair (Write t j v)) t p _ no (λ b u l m e. by-check (Fair (Write t j v)) _ 3 p _ (λ _. no 3) (λ _. by-check (Fair (Write t j v)) _ 5 p _ (λ _. no 5) (λ _. by-check (Fair (Write t j v)) _ 30 p _ (λ _. no 30)
+      by-transaction (Fair (Write t j v)) t p _ no (λ b u l m e. by-check (Fair (Write t j v)) _ 3 p _ (λ _. no 3) (λ _. by-check (Fair (Write t j v)) _ 5 p _ (λ _. no 5) (λ _. by-check (Fair (Write t j v)) _ 30 p _ (λ _. no 30)
       (λ _. record { kept = kept-wrote start K h p q t j v b u l m e; right = tt }))))
     where
       no : (n : ℕ) → Good start K h (Write t j v) (refused n [], p)
@@ -91,7 +91,7 @@ module _ (start : Board) (K : ℕ) (h : Facts) (p : Plain) (ord : Orderly p) (q 
 
   good-giveUp : (t : ℕ) → Good start K h (GiveUp t) (step (GiveUp t) p)
   unfolding step
-  good-giveUp t = by-tx (Fair (GiveUp t)) t p _ (λ n. record { kept = q; right = tt }) (λ b u l m e. record { kept = kept-idle t given-up l m (λ _. tt); right = tt })
+  good-giveUp t = by-transaction (Fair (GiveUp t)) t p _ (λ n. record { kept = q; right = tt }) (λ b u l m e. record { kept = kept-idle t given-up l m (λ _. tt); right = tt })
 
   -- the clashes of the plain board are the queue's
   to-words : (u : Pairs) (n : ℕ) (L : ℕ → Option ℕ) → ((j : ℕ) → lookup u j ≡ L j) → 1 ≤ n → n ≤ given h → clash (pairs N n) u ≡ true → Clashing (write-set h n) L
@@ -102,7 +102,7 @@ module _ (start : Board) (K : ℕ) (h : Facts) (p : Plain) (ord : Orderly p) (q 
 
   good-commit : (t : ℕ) → Good start K h (Commit t) (step (Commit t) p)
   unfolding step
-  good-commit t = by-tx (Fair (Commit t)) t p _ no (λ b u l m e. own b u l m e (is-empty u) refl)
+  good-commit t = by-transaction (Fair (Commit t)) t p _ no (λ b u l m e. own b u l m e (is-empty u) refl)
     where
       no : (n : ℕ) → Good start K h (Commit t) (refused n [], p)
       no n = record { kept = q; right = tt }

@@ -6,15 +6,16 @@ use mathlib.Core.Path.{ap, refl, sym, _∙_, _≡_}
 use Prim.Native.Nat.{suc, ℕ, _<_, _≤_}
 use native.Mathlib.Omega.{arith}
 use lib.Dec.{eqb, leb, ltb}
-use lib.ListN.{getD, length, length-set, set}
-use Rattle.std.proofs.shelf.Lists.{ext-getD, getD-set-other, getD-set-same}
+use lib.ListN.{length}
+use Rattle.std.proofs.shelf.Lists.{ext-getD}
 use Rattle.std.proofs.shelf.Tests.{and-from, and-parts, both-ways, eq-eqb, eqb-false, eqb-true, le-leb, leb-true, lt-ltb, ltb-false, ltb-true, or-cases}
 use Rattle.std.proofs.shelf.Ways.{tells}
 use Rattle.std.specs.Options.{isSome}
 use Rattle.std.specs.declared.option.Option.{Option}
 use Rattle.std.specs.declared.option.Option.the-variants.{None, Some}
-use Rattle.tickets.specs.Boards.{Board, value}
-use Rattle.tickets.specs.WriteSets.{Pairs, is-write-set, lookup, over, play, rising, stands}
+use Rattle.tickets.specs.Boards.{Board}
+use Rattle.tickets.specs.WriteSets.{Pairs, is-write-set, lookup, play, rising, stands}
+use Rattle.tickets.proofs.Playing.{length-play, value-play}
 use Rattle.law.specs.Orderly.{Fine}
 use Rattle.law.specs.Writes.{is-empty, put, room}
 
@@ -113,19 +114,6 @@ stands-more o j v u e = go (eqb o j)
     go true = refl
     go false = e
 
--- ---- playing pairs over a board
-
-pub play-length : (u : Pairs) (b : Board) → length (play u b) ≡ length b
-play-length [] b = refl
-play-length ((i, v) ∷ u) b = length-set (play u b) i v ∙ play-length u b
-
-pub play-value : (u : Pairs) (b : Board) (j : ℕ) → j < length b → value (play u b) j ≡ over (lookup u j) (value b j)
-play-value [] b j h = refl
-play-value ((i, v) ∷ u) b j h = go (play-value u b j h) (eqb j i) refl
-  where
-    go : value (play u b) j ≡ over (lookup u j) (value b j) → (e : Bool) → eqb j i ≡ e → getD (set (play u b) i v) j 0 ≡ over (cond e (Some v) (lookup u j)) (getD b j 0)
-    go ih true e = rw (eqb-true j i e) (getD-set-same (play u b) i v 0 (omega (arith, play-length u b, eqb-true j i e)))
-    go ih false e = getD-set-other (play u b) i j v 0 (eqb-false j i e) ∙ ih
-
+-- pairs with the same values play alike
 pub play-same : (u w : Pairs) (b : Board) → ((o : ℕ) → lookup u o ≡ lookup w o) → play u b ≡ play w b
-play-same u w b e = ext-getD 0 (play u b) (play w b) (play-length u b ∙ sym (play-length w b)) (λ i l. play-value u b i (omega (arith, play-length u b)) ∙ (rw (e i) (sym (play-value w b i (omega (arith, play-length u b))))))
+play-same u w b e = ext-getD 0 (play u b) (play w b) (length-play u b ∙ sym (length-play w b)) (λ i l. value-play u b i (omega (arith, length-play u b)) ∙ (rw (e i) (sym (value-play w b i (omega (arith, length-play u b))))))

@@ -7,7 +7,6 @@ use lib.ListN.{length}
 use Rattle.calls.specs.declared.call.Call.{Call}
 use Rattle.tickets.specs.Boards.{Board}
 use Rattle.law.specs.History.{Answer, accepted, is-fault, Event, History, run-of}
-use Rattle.law.specs.History.Answer.{done}
 use Rattle.law.specs.History.Event.{event}
 use Rattle.law.specs.Plain.{Plain, just-opened}
 use Rattle.law.specs.Steps.{run}
@@ -39,7 +38,7 @@ pub record Ran (start : Board) (K : ℕ) (calls : List Call) (h : History) (m : 
 -- a run's answer to the opening, its history, and the bank that comes back; where the opening is refused, no call is run
 pub record Promised (bank : List Store) (queue : List Call) (a : Answer) (h : History) (after : List Store) : Type 0 where
   pub opening : a ≡ opening bank
-  pub served : a ≡ done → Served bank queue h after
+  pub served : accepted a ≡ true → Served bank queue h after
   pub refused : accepted a ≡ false → (h ≡ []) × (after ≡ bank)
 
 -- a whole run of the middleware: it is made, opened, and given the queue
