@@ -1,4 +1,4 @@
--- What holds of every outcome of a check holds of the check. Assumes nothing.
+-- What holds of every outcome of a check holds of the check.
 use mathlib.Core.Bool.{Bool, false, true}
 use mathlib.Core.List.{[]}
 use mathlib.Core.Path.{refl, _≡_}
@@ -25,10 +25,12 @@ module _ (P : Outcome → Type 0) where
   by-live aborted p f x y = x
   by-live given-up p f x y = x
 
-  pub by-open : (t : ℕ) (p : Plain) (f : Board → Pairs → Outcome) → P (refused 2 [], p) → P (refused 29 [], p) → ((b : Board) (u : Pairs) → 1 ≤ t → t ≤ length (p .transactions) → transaction p t .state ≡ live b u → P (f b u)) → P (on-transaction t p f)
+  pub by-open : (t : ℕ) (p : Plain) (f : Board → Pairs → Outcome) → P (refused 2 [], p) → P (refused 29 [], p) →
+      ((b : Board) (u : Pairs) → 1 ≤ t → t ≤ length (p .transactions) → transaction p t .state ≡ live b u → P (f b u)) → P (on-transaction t p f)
   by-open t p f x z y =
       by-check (up-to (length (p .transactions)) t) 2 p (on-live (transaction p t .state) p f) (λ _. x)
       (λ e. let l = up-to-bounds (length (p .transactions)) t e in by-live (transaction p t .state) p f z (λ b u d. y b u (l .0) (l .1) d))
 
-  pub by-transaction : (t : ℕ) (p : Plain) (f : Board → Pairs → Outcome) → ((n : ℕ) → P (refused n [], p)) → ((b : Board) (u : Pairs) → 1 ≤ t → t ≤ length (p .transactions) → transaction p t .state ≡ live b u → P (f b u)) → P (on-transaction t p f)
+  pub by-transaction : (t : ℕ) (p : Plain) (f : Board → Pairs → Outcome) → ((n : ℕ) → P (refused n [], p)) →
+      ((b : Board) (u : Pairs) → 1 ≤ t → t ≤ length (p .transactions) → transaction p t .state ≡ live b u → P (f b u)) → P (on-transaction t p f)
   by-transaction t p f x y = by-open t p f (x 2) (x 29) y

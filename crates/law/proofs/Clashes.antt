@@ -1,4 +1,4 @@
--- The clash of two write sets: as pairs, as functions of the object, and today's rule. Assumes nothing.
+-- The clash of two write sets: as pairs, as functions of the object, and today's rule.
 use mathlib.Core.Bool.{Bool, cond, false, true, _||_}
 use mathlib.Core.List.{[], _∷_}
 use mathlib.Core.Logic.{⊎-elim, _⊎_}
@@ -37,7 +37,8 @@ pub clash-from : (u w : Pairs) → Clashing (lookup u) (lookup w) → clash u w 
 clash-from [] w (j, e) = absurd (both-ways false refl e)
 clash-from ((i, v) ∷ u) w (j, e) = go (λ h. clash-from u w (j, h)) (eqb j i) refl e
   where
-    go : (clash-at (lookup u j) (lookup w j) ≡ true → clash u w ≡ true) → (b : Bool) → eqb j i ≡ b → clash-at (cond b (Some v) (lookup u j)) (lookup w j) ≡ true → (stands w i || clash u w) ≡ true
+    go : (clash-at (lookup u j) (lookup w j) ≡ true → clash u w ≡ true) → (b : Bool) → eqb j i ≡ b →
+        clash-at (cond b (Some v) (lookup u j)) (lookup w j) ≡ true → (stands w i || clash u w) ≡ true
     go ih true d h = or-left (stands w i) (clash u w) (rw (eqb-true j i d) at h)
     go ih false d h = or-right (stands w i) (clash u w) (ih h)
 

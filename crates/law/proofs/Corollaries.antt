@@ -1,4 +1,4 @@
--- What follows from the law. Assumes nothing.
+-- What follows from the law.
 use mathlib.Core.Bool.{Bool, cond, false, true}
 use mathlib.Core.List.{[], _∷_}
 use mathlib.Core.Logic.{inl, inr, _⊎_}

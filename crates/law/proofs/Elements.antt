@@ -1,4 +1,4 @@
--- One element changed, or one more; one number more that is applied. Assumes nothing.
+-- One element changed, or one more; one number more that is applied.
 use mathlib.Core.Bool.{Bool, false, true, _&&_}
 use mathlib.Core.List.{List, [], _++_, _∷_}
 use mathlib.Core.Logic.{inl, inr, _⊎_}
@@ -13,7 +13,8 @@ use Rattle.law.specs.Applications.{marked}
 use Rattle.law.specs.Plain.{Transaction, busy, busy-at, is-busy, no-transaction}
 use Rattle.law.proofs.Numbers.{bit, tally-set}
 
-pub at-set : {X : Type 0} (P : X → Type 0) (d : X) (T : List X) (t o : ℕ) (x : X) → 1 ≤ t → t ≤ length T → 1 ≤ o → (o ≡ t → P x) → ((o ≡ t → ⊥) → P (getD T (o - 1) d)) → P (getD (set T (t - 1) x) (o - 1) d)
+pub at-set : {X : Type 0} (P : X → Type 0) (d : X) (T : List X) (t o : ℕ) (x : X) → 1 ≤ t → t ≤ length T → 1 ≤ o → (o ≡ t → P x) →
+    ((o ≡ t → ⊥) → P (getD T (o - 1) d)) → P (getD (set T (t - 1) x) (o - 1) d)
 at-set P d T t o x l m n f g = go (cases-eq o t)
   where
     go : (o ≡ t) ⊎ (o ≡ t → ⊥) → P (getD (set T (t - 1) x) (o - 1) d)
@@ -27,7 +28,8 @@ at-place P d T k o x l f g = go (cases-eq o k)
     go (inl e) = rw (e, getD-set-same T k x d l) (f e)
     go (inr e) = rw (getD-set-other T k o x d e) (g e)
 
-pub at-push : {X : Type 0} (P : X → Type 0) (d : X) (T : List X) (o : ℕ) (x : X) → 1 ≤ o → o ≤ length (T ++ x ∷ []) → (o ≡ suc (length T) → P x) → (o ≤ length T → P (getD T (o - 1) d)) → P (getD (T ++ x ∷ []) (o - 1) d)
+pub at-push : {X : Type 0} (P : X → Type 0) (d : X) (T : List X) (o : ℕ) (x : X) → 1 ≤ o → o ≤ length (T ++ x ∷ []) → (o ≡ suc (length T) → P x) →
+    (o ≤ length T → P (getD T (o - 1) d)) → P (getD (T ++ x ∷ []) (o - 1) d)
 at-push P d T o x l m f g = go (cases-eq o (suc (length T)))
   where
     go : (o ≡ suc (length T)) ⊎ (o ≡ suc (length T) → ⊥) → P (getD (T ++ x ∷ []) (o - 1) d)
@@ -35,7 +37,8 @@ at-push P d T o x l m f g = go (cases-eq o (suc (length T)))
     go (inr e) = let n : o ≤ length T = omega (arith, length-push T x) in rw (getD-append-left T (x ∷ []) d (o - 1) (omega arith)) (g n)
 
 -- a transaction that stays at home and comes to no busier state
-pub busy-less : (k : ℕ) (T : List Transaction) (i : ℕ) (x : Transaction) → i < length T → x .home ≡ getD T i no-transaction .home → (is-busy (x .state) ≡ true → is-busy (getD T i no-transaction .state) ≡ true) → busy k (set T i x) ≤ busy k T
+pub busy-less : (k : ℕ) (T : List Transaction) (i : ℕ) (x : Transaction) → i < length T → x .home ≡ getD T i no-transaction .home →
+    (is-busy (x .state) ≡ true → is-busy (getD T i no-transaction .state) ≡ true) → busy k (set T i x) ≤ busy k T
 busy-less k T i x l h b =
     let a = tally-set (busy-at k) no-transaction T i x l in
     let c : bit (busy-at k x) ≤ bit (busy-at k (getD T i no-transaction)) = rw h (go (eqb (getD T i no-transaction .home) k) (is-busy (x .state)) (is-busy (getD T i no-transaction .state)) b) in

@@ -1,4 +1,4 @@
--- The lowest few of the numbers that are lacking: one more. Assumes nothing.
+-- The lowest few of the numbers that are lacking: one more.
 use mathlib.Core.Bool.{Bool, cond, false, not, true, _&&_, _||_}
 use mathlib.Core.Logic.{inl, inr, ⊎-elim, _⊎_}
 use mathlib.Core.Path.{ap, refl, sym, _∙_, _≡_}
@@ -27,7 +27,8 @@ module _ (f : ℕ → Bool) (r : ℕ) where
   count-less e l zero x = absurd (omega arith)
   count-less e l (suc n) x = go (λ y. count-less e l n y) (cases-eq (suc n) r)
     where
-      go : (r ≤ n → count (λ i. not (f i)) n ≡ suc (count (λ i. not (more i)) n)) → (suc n ≡ r) ⊎ (suc n ≡ r → ⊥) → count (λ i. not (f i)) (suc n) ≡ suc (count (λ i. not (more i)) (suc n))
+      go : (r ≤ n → count (λ i. not (f i)) n ≡ suc (count (λ i. not (more i)) n)) → (suc n ≡ r) ⊎ (suc n ≡ r → ⊥) →
+          count (λ i. not (f i)) (suc n) ≡ suc (count (λ i. not (more i)) (suc n))
       go ih (inl y) =
           let same : count (λ i. not (f i)) n ≡ count (λ i. not (more i)) n = count-same (λ i. not (f i)) (λ i. not (more i)) n (λ i a b. rw (ne-eqb i r (omega arith))) in
           let here : f (suc n) ≡ false = rw y e in
@@ -38,7 +39,8 @@ module _ (f : ℕ → Bool) (r : ℕ) where
           let here-too : eqb (suc n) r ≡ false = ne-eqb (suc n) r y in
           both (f (suc n)) (eqb (suc n) r) here-too d
         where
-          both : (a b : Bool) → b ≡ false → count (λ i. not (f i)) n ≡ suc (count (λ i. not (more i)) n) → cond (not a) (suc (count (λ i. not (f i)) n)) (count (λ i. not (f i)) n) ≡ suc (cond (not (b || a)) (suc (count (λ i. not (more i)) n)) (count (λ i. not (more i)) n))
+          both : (a b : Bool) → b ≡ false → count (λ i. not (f i)) n ≡ suc (count (λ i. not (more i)) n) →
+              cond (not a) (suc (count (λ i. not (f i)) n)) (count (λ i. not (f i)) n) ≡ suc (cond (not (b || a)) (suc (count (λ i. not (more i)) n)) (count (λ i. not (more i)) n))
           both true b e d = rw e d
           both false b e d = rw e (ap suc d)
 
@@ -84,7 +86,9 @@ few-count f N m (suc n) l =
     let less : suc n - 1 ≡ n = omega arith in
     rw (here, lt-ltb 0 (suc n) (omega arith)) (rw less (go (f (suc n)) (ltb (count (λ i. not (f i)) n) m) refl ih))
   where
-    go : (a b : Bool) → ltb (count (λ i. not (f i)) n) m ≡ b → count (λ i. lowest-few f N m i || f i) n ≡ count f n + min m (count (λ i. not (f i)) n) → cond ((true && (not a && b)) || a) (suc (count (λ i. lowest-few f N m i || f i) n)) (count (λ i. lowest-few f N m i || f i) n) ≡ cond a (suc (count f n)) (count f n) + min m (cond (not a) (suc (count (λ i. not (f i)) n)) (count (λ i. not (f i)) n))
+    go : (a b : Bool) → ltb (count (λ i. not (f i)) n) m ≡ b →
+        count (λ i. lowest-few f N m i || f i) n ≡ count f n + min m (count (λ i. not (f i)) n) →
+        cond ((true && (not a && b)) || a) (suc (count (λ i. lowest-few f N m i || f i) n)) (count (λ i. lowest-few f N m i || f i) n) ≡ cond a (suc (count f n)) (count f n) + min m (cond (not a) (suc (count (λ i. not (f i)) n)) (count (λ i. not (f i)) n))
     go true true e ih = omega arith
     go true false e ih = omega arith
     go false true e ih = omega (arith, ltb-true (count (λ i. not (f i)) n) m e)

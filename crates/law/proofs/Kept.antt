@@ -1,4 +1,4 @@
--- The plain board stays as the words of the queue say. Assumes nothing.
+-- The plain board stays as the words of the queue say.
 use mathlib.Core.Bool.{Bool, cond, false, not, true, _&&_, _||_}
 use mathlib.Core.List.{List, [], _++_, _∷_}
 use mathlib.Core.Path.{ap, fun-ext, refl, subst, sym, _∙_, _≡_}
@@ -27,7 +27,8 @@ use Rattle.law.proofs.Elements.{at-set}
 use Rattle.law.proofs.Few.{few-all, few-more, few-none}
 use Rattle.law.proofs.Layers.{layers-add, layers-front, layers-same}
 use Rattle.law.proofs.Numbers.{Found, Lowest, count-most, exactly-is, lowest-is}
-use Rattle.law.proofs.Orderly.{lowest-free, not-yet, orderly-played}
+use Rattle.law.proofs.Orderly.{not-yet}
+use Rattle.law.proofs.OrderlySteps.{lowest-free, orderly-played}
 use Rattle.law.proofs.Worlds.{replicas}
 use Rattle.law.proofs.Writes.{lookup-put}
 
@@ -75,7 +76,8 @@ pub record Kept (start : Board) (K : ℕ) (x : Said) (p : Plain) : Type 0 where
 
 module _ (start : Board) (K : ℕ) (h : Facts) (p : Plain) (q : Kept start K (said h) p) where
   -- a transaction that is open no more, of which nothing is kept but what it saw
-  pub kept-ended : (t : ℕ) (e : TransactionState) → 1 ≤ t → t ≤ length (p .transactions) → ((s : ℕ) → LiveOk start (write-set h) (last-write h t) s e) → Kept start K (said h) (with-transaction p t (in-state e (transaction p t)))
+  pub kept-ended : (t : ℕ) (e : TransactionState) → 1 ≤ t → t ≤ length (p .transactions) →
+      ((s : ℕ) → LiveOk start (write-set h) (last-write h t) s e) → Kept start K (said h) (with-transaction p t (in-state e (transaction p t)))
   kept-ended t e l m idle =
       record {
         replicas = q .replicas;
@@ -94,7 +96,8 @@ module _ (start : Board) (K : ℕ) (h : Facts) (p : Plain) (q : Kept start K (sa
       y : Transaction
       y = in-state e (transaction p t)
 
-  pub kept-wrote : (t j v : ℕ) (b : Board) (u : Pairs) → 1 ≤ t → t ≤ length (p .transactions) → transaction p t .state ≡ live b u → Kept start K (said (Fact.wrote t j v ∷ h)) (with-transaction p t (in-state (live b (put j v u)) (transaction p t)))
+  pub kept-wrote : (t j v : ℕ) (b : Board) (u : Pairs) → 1 ≤ t → t ≤ length (p .transactions) → transaction p t .state ≡ live b u →
+      Kept start K (said (Fact.wrote t j v ∷ h)) (with-transaction p t (in-state (live b (put j v u)) (transaction p t)))
   kept-wrote t j v b u l m e =
       record {
         replicas = q .replicas;
@@ -117,7 +120,8 @@ module _ (start : Board) (K : ℕ) (h : Facts) (p : Plain) (q : Kept start K (sa
           let own : LiveOk start (write-set h) (last-write h t) (snapshot h t) (live b u) = subst (LiveOk start (write-set h) (last-write h t) (snapshot h t)) e (c .own) in
           record { saw = c .saw; own = ((λ o. lookup-put j v u o ∙ rw (own .0 o)), own .1) }
 
-      at : (i : ℕ) → 1 ≤ i → i ≤ length (p .transactions) → (c : Bool) → eqb i t ≡ c → TransactionOk start (write-set h) (λ o. cond (c && eqb o j) (Some v) (last-write h i o)) (snapshot h i) (getD (set (p .transactions) (t - 1) z) (i - 1) no-transaction)
+      at : (i : ℕ) → 1 ≤ i → i ≤ length (p .transactions) → (c : Bool) → eqb i t ≡ c →
+          TransactionOk start (write-set h) (λ o. cond (c && eqb o j) (Some v) (last-write h i o)) (snapshot h i) (getD (set (p .transactions) (t - 1) z) (i - 1) no-transaction)
       at i x y true d = rw (eqb-true i t d, getD-set-same (p .transactions) (t - 1) z no-transaction (omega arith)) here
       at i x y false d = rw (getD-set-other (p .transactions) (t - 1) (i - 1) z no-transaction (omega (arith, eqb-false i t d))) (q .transactions i x y)
 
@@ -148,12 +152,14 @@ module _ (start : Board) (K : ℕ) (h : Facts) (p : Plain) (q : Kept start K (sa
       here : TransactionOk start (write-set h) (last-write h (suc (length (p .transactions)))) (count (is-applied h k) (given h)) (new-transaction k p)
       here = record { saw = sum; own = ((λ j. sym (q .later (suc (length (p .transactions))) (omega arith) j)), (λ j x. r .played j x ∙ layers-front (is-applied h k) (write-set h) (value start) (count (is-applied h k) (given h)) (given h) j (count-most (is-applied h k) (given h)) (exactly-is (is-applied h k) (count (is-applied h k) (given h)) (given h) no-holes))) }
 
-      at : (i : ℕ) → 1 ≤ i → i ≤ suc (length (p .transactions)) → (c : Bool) → eqb i (suc (length (p .transactions))) ≡ c → TransactionOk start (write-set h) (last-write h i) (cond c (count (is-applied h k) (given h)) (snapshot h i)) (getD (p .transactions ++ new-transaction k p ∷ []) (i - 1) no-transaction)
+      at : (i : ℕ) → 1 ≤ i → i ≤ suc (length (p .transactions)) → (c : Bool) → eqb i (suc (length (p .transactions))) ≡ c →
+          TransactionOk start (write-set h) (last-write h i) (cond c (count (is-applied h k) (given h)) (snapshot h i)) (getD (p .transactions ++ new-transaction k p ∷ []) (i - 1) no-transaction)
       at i x y true d = rw (getD-push (p .transactions) (new-transaction k p) no-transaction (i - 1) (omega (arith, eqb-true i (suc (length (p .transactions))) d)), eqb-true i (suc (length (p .transactions))) d) here
       at i x y false d = rw (getD-append-left (p .transactions) (new-transaction k p ∷ []) no-transaction (i - 1) (omega (arith, eqb-false i (suc (length (p .transactions))) d))) (q .transactions i x (omega (arith, eqb-false i (suc (length (p .transactions))) d)))
 
   -- a write set gets its number
-  pub kept-numbered : Orderly p → (t : ℕ) (b : Board) (u : Pairs) → 1 ≤ t → t ≤ length (p .transactions) → transaction p t .state ≡ live b u → Kept start K (said (Fact.numbered t (suc (length (p .sets))) ∷ h)) (register t u p)
+  pub kept-numbered : Orderly p → (t : ℕ) (b : Board) (u : Pairs) → 1 ≤ t → t ≤ length (p .transactions) → transaction p t .state ≡ live b u →
+      Kept start K (said (Fact.numbered t (suc (length (p .sets))) ∷ h)) (register t u p)
   kept-numbered ord t b u l m e =
       record {
         replicas = q .replicas;
@@ -194,11 +200,13 @@ module _ (start : Board) (K : ℕ) (h : Facts) (p : Plain) (q : Kept start K (sa
       own : LiveOk start (write-set h) (last-write h t) (snapshot h t) (live b u)
       own = subst (LiveOk start (write-set h) (last-write h t) (snapshot h t)) e (q .transactions t l m .own)
 
-      from : (i : ℕ) → 1 ≤ i → i ≤ suc (given h) → (c : Bool) → eqb i (suc (length (p .sets))) ≡ c → numbered (p .sets ++ new ∷ []) i .s ≡ cond c (snapshot h t) (snapshot-of-set h i)
+      from : (i : ℕ) → 1 ≤ i → i ≤ suc (given h) → (c : Bool) → eqb i (suc (length (p .sets))) ≡ c →
+          numbered (p .sets ++ new ∷ []) i .s ≡ cond c (snapshot h t) (snapshot-of-set h i)
       from i x y true d = rw (getD-push (p .sets) new no-set (i - 1) (omega (arith, eqb-true i (suc (length (p .sets))) d))) (q .transactions t l m .saw)
       from i x y false d = rw (getD-append-left (p .sets) (new ∷ []) no-set (i - 1) (omega (arith, q .given, eqb-false i (suc (length (p .sets))) d))) (q .saw i x (omega (arith, q .given, eqb-false i (suc (length (p .sets))) d)))
 
-      at : (i : ℕ) → 1 ≤ i → i ≤ suc (given h) → (j : ℕ) → (c : Bool) → eqb i (suc (length (p .sets))) ≡ c → lookup (getD (p .sets ++ new ∷ []) (i - 1) no-set .pairs) j ≡ cond c (last-write h t j) (write-set h i j)
+      at : (i : ℕ) → 1 ≤ i → i ≤ suc (given h) → (j : ℕ) → (c : Bool) → eqb i (suc (length (p .sets))) ≡ c →
+          lookup (getD (p .sets ++ new ∷ []) (i - 1) no-set .pairs) j ≡ cond c (last-write h t j) (write-set h i j)
       at i x y j true d = rw (getD-push (p .sets) new no-set (i - 1) (omega (arith, eqb-true i (suc (length (p .sets))) d))) (own .0 j)
       at i x y j false d = rw (getD-append-left (p .sets) (new ∷ []) no-set (i - 1) (omega (arith, q .given, eqb-false i (suc (length (p .sets))) d))) (q .named i x (omega (arith, q .given, eqb-false i (suc (length (p .sets))) d)) j)
 
@@ -248,14 +256,16 @@ module _ (start : Board) (K : ℕ) (h : Facts) (p : Plain) (q : Kept start K (sa
       as-long true = length-set (p .transactions) (t - 1) (in-state committed (transaction p t))
       as-long false = refl
 
-      ended-ok : (M : ℕ → Option ℕ) (s : ℕ) (T : List Transaction) (i o : ℕ) → TransactionOk start (write-set h) M s (getD T o no-transaction) → TransactionOk start (write-set h) M s (getD (set T i (in-state committed (getD T i no-transaction))) o no-transaction)
+      ended-ok : (M : ℕ → Option ℕ) (s : ℕ) (T : List Transaction) (i o : ℕ) → TransactionOk start (write-set h) M s (getD T o no-transaction) →
+          TransactionOk start (write-set h) M s (getD (set T i (in-state committed (getD T i no-transaction))) o no-transaction)
       ended-ok M s [] i o c = c
       ended-ok M s (x ∷ T) zero zero c = record { saw = c .saw; own = tt }
       ended-ok M s (x ∷ T) zero (suc o) c = c
       ended-ok M s (x ∷ T) (suc i) zero c = c
       ended-ok M s (x ∷ T) (suc i) (suc o) c = ended-ok M s T i o c
 
-      settled : (i : ℕ) → 1 ≤ i → (e : Bool) → i ≤ length (cond e closing (p .transactions)) → TransactionOk start (write-set h) (last-write h i) (snapshot h i) (getD (cond e closing (p .transactions)) (i - 1) no-transaction)
+      settled : (i : ℕ) → 1 ≤ i → (e : Bool) → i ≤ length (cond e closing (p .transactions)) →
+          TransactionOk start (write-set h) (last-write h i) (snapshot h i) (getD (cond e closing (p .transactions)) (i - 1) no-transaction)
       settled i x true y = ended-ok (last-write h i) (snapshot h i) (p .transactions) (t - 1) (i - 1) (q .transactions i x (omega (arith, as-long true)))
       settled i x false y = q .transactions i x y
 
@@ -278,7 +288,9 @@ kept-drained start K k (suc m) b h p ord q = go (λ f r z u. kept-drained start 
     is : (i : ℕ) → p .applied k i ≡ is-applied h k i
     is i = ap (λ (f : ℕ → ℕ → Bool). f k i) (q .applied)
 
-    go : ((f : Facts) (r : Plain) → Orderly r → Kept start K (said f) r → Kept start K (said (Fact.drained k m ∷ f)) (drained k m r)) → (r : ℕ) → Lowest (lacks (p .applied k)) (length (p .sets)) r → Kept start K (said (Fact.drained k (suc m) ∷ h)) (on-number r p (λ n. drained k m (played-at k n p)))
+    go : ((f : Facts) (r : Plain) → Orderly r → Kept start K (said f) r → Kept start K (said (Fact.drained k m ∷ f)) (drained k m r)) → (r : ℕ) →
+        Lowest (lacks (p .applied k)) (length (p .sets)) r →
+        Kept start K (said (Fact.drained k (suc m) ∷ h)) (on-number r p (λ n. drained k m (played-at k n p)))
     go ih zero l = subst (λ (x : Said). Kept start K x p) (same-said h (is-applied h) (is-applied (Fact.drained k (suc m) ∷ h)) (λ i o. same i o (eqb i k) refl)) q
       where
         same : (i o : ℕ) (e : Bool) → eqb i k ≡ e → is-applied h i o ≡ (e && lowest-few (is-applied h i) (given h) (suc m) o || is-applied h i o)
@@ -293,6 +305,7 @@ kept-drained start K k (suc m) b h p ord q = go (λ f r z u. kept-drained start 
         found : Found (λ i. not (is-applied h k i)) (given h) (suc r)
         found = record { least = l .least; most = omega (arith, l .most, q .given); passes = ap not (sym (is (suc r))) ∙ l .passes; below = λ x y z. ap not (sym (is x)) ∙ l .below x y z }
 
-        same : (i o : ℕ) (e : Bool) → eqb i k ≡ e → (e && lowest-few (λ x. e && eqb x (suc r) || is-applied h i x) (given h) m o || (e && eqb o (suc r) || is-applied h i o)) ≡ (e && lowest-few (is-applied h i) (given h) (suc m) o || is-applied h i o)
+        same : (i o : ℕ) (e : Bool) → eqb i k ≡ e →
+            (e && lowest-few (λ x. e && eqb x (suc r) || is-applied h i x) (given h) m o || (e && eqb o (suc r) || is-applied h i o)) ≡ (e && lowest-few (is-applied h i) (given h) (suc m) o || is-applied h i o)
         same i o true d = rw (eqb-true i k d) (few-more (is-applied h k) (suc r) (given h) m found o)
         same i o false d = refl

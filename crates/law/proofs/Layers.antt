@@ -1,4 +1,4 @@
--- Write sets played in number order. Assumes nothing.
+-- Write sets played in number order.
 use mathlib.Core.Bool.{Bool, cond, false, true, _||_}
 use mathlib.Core.Logic.{inl, inr, _⊎_}
 use mathlib.Core.Path.{ap, refl, _∙_, _≡_}
@@ -13,7 +13,8 @@ use Rattle.std.specs.declared.option.Option.the-variants.{None, Some}
 use Rattle.tickets.specs.WriteSets.{over}
 use Rattle.law.specs.Words.{layers}
 
-pub layers-same : (f g : ℕ → Bool) (w u : ℕ → ℕ → Option ℕ) (b : ℕ → ℕ) (n j : ℕ) → ((i : ℕ) → 1 ≤ i → i ≤ n → f i ≡ g i) → ((i : ℕ) → 1 ≤ i → i ≤ n → w i j ≡ u i j) → layers f w b n j ≡ layers g u b n j
+pub layers-same : (f g : ℕ → Bool) (w u : ℕ → ℕ → Option ℕ) (b : ℕ → ℕ) (n j : ℕ) → ((i : ℕ) → 1 ≤ i → i ≤ n → f i ≡ g i) →
+    ((i : ℕ) → 1 ≤ i → i ≤ n → w i j ≡ u i j) → layers f w b n j ≡ layers g u b n j
 layers-same f g w u b zero j p q = refl
 layers-same f g w u b (suc n) j p q =
     let ih = layers-same f g w u b n j (λ i x y. p i x (omega arith)) (λ i x y. q i x (omega arith)) in
@@ -34,7 +35,8 @@ module _ (f : ℕ → Bool) (w : ℕ → ℕ → Option ℕ) (b : ℕ → ℕ) (
   add-some v e zero p q h = absurd (omega arith)
   add-some v e (suc N) p q h = go (λ x. add-some v e N x q (λ m y z. h m y (omega arith))) (cases-eq (suc N) n)
     where
-      above : n < suc N → layers with w b N j ≡ v → (a : Bool) (o : Option ℕ) → f (suc N) ≡ a → w (suc N) j ≡ o → cond (eqb (suc N) n || a) (over o (layers with w b N j)) (layers with w b N j) ≡ v
+      above : n < suc N → layers with w b N j ≡ v → (a : Bool) (o : Option ℕ) → f (suc N) ≡ a → w (suc N) j ≡ o →
+          cond (eqb (suc N) n || a) (over o (layers with w b N j)) (layers with w b N j) ≡ v
       above l ih true None d c = rw (ne-eqb (suc N) n (omega arith)) ih
       above l ih true (Some x) d c = absurd (h (suc N) l (omega arith) d (ap isSome c))
       above l ih false o d c = rw (ne-eqb (suc N) n (omega arith)) ih
@@ -43,7 +45,8 @@ module _ (f : ℕ → Bool) (w : ℕ → ℕ → Option ℕ) (b : ℕ → ℕ) (
       go ih (inl x) = rw (x, eq-eqb n n refl, e)
       go ih (inr x) = above (omega arith) (ih (omega arith)) (f (suc N)) (w (suc N) j) refl refl
 
-  pub layers-add : (N : ℕ) → n ≤ N → 1 ≤ n → ((m : ℕ) → n < m → m ≤ N → f m ≡ true → isSome (w n j) ≡ true → isSome (w m j) ≡ true → ⊥) → layers with w b N j ≡ over (w n j) (layers f w b N j)
+  pub layers-add : (N : ℕ) → n ≤ N → 1 ≤ n → ((m : ℕ) → n < m → m ≤ N → f m ≡ true → isSome (w n j) ≡ true → isSome (w m j) ≡ true → ⊥) →
+      layers with w b N j ≡ over (w n j) (layers f w b N j)
   layers-add N p q h = go (w n j) refl
     where
       go : (o : Option ℕ) → w n j ≡ o → layers with w b N j ≡ over o (layers f w b N j)

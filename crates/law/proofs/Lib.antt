@@ -8,9 +8,12 @@ pub mod Stores
 pub mod Elements
 pub mod Cases
 pub mod Orderly
+pub mod OrderlySteps
 pub mod Worlds
 pub mod Couplings
+pub mod CouplingsApplied
 pub mod Simulated
+pub mod SimulatedSteps
 pub mod Kept
 pub mod Rights
 pub mod Queues

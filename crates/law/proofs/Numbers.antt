@@ -1,4 +1,4 @@
--- Numbers from 1 to n and tallies. Assumes nothing.
+-- Numbers from 1 to n and tallies.
 use mathlib.Core.Bool.{Bool, Bool·beq, cond, false, true, _||_}
 use mathlib.Core.List.{List, [], _++_, _∷_}
 use mathlib.Core.Logic.{inl, inr, ⊎-elim, _⊎_}
@@ -32,7 +32,8 @@ module _ {X : Type 0} (f : X → Bool) where
       go false false = omega arith
   tally-set d (y ∷ l) (suc i) x h = go (f y) (tally-set d l i x (omega arith))
     where
-      go : (a : Bool) → tally f (set l i x) + bit (f (getD l i d)) ≡ tally f l + bit (f x) → cond a (suc (tally f (set l i x))) (tally f (set l i x)) + bit (f (getD l i d)) ≡ cond a (suc (tally f l)) (tally f l) + bit (f x)
+      go : (a : Bool) → tally f (set l i x) + bit (f (getD l i d)) ≡ tally f l + bit (f x) →
+          cond a (suc (tally f (set l i x))) (tally f (set l i x)) + bit (f (getD l i d)) ≡ cond a (suc (tally f l)) (tally f l) + bit (f x)
       go true e = omega arith
       go false e = e
 
@@ -44,7 +45,8 @@ module _ {X : Type 0} (f : X → Bool) where
       go false = omega arith
   tally-push (y ∷ l) x = go (f y) (tally-push l x)
     where
-      go : (a : Bool) → tally f (l ++ x ∷ []) ≡ tally f l + bit (f x) → cond a (suc (tally f (l ++ x ∷ []))) (tally f (l ++ x ∷ [])) ≡ cond a (suc (tally f l)) (tally f l) + bit (f x)
+      go : (a : Bool) → tally f (l ++ x ∷ []) ≡ tally f l + bit (f x) →
+          cond a (suc (tally f (l ++ x ∷ []))) (tally f (l ++ x ∷ [])) ≡ cond a (suc (tally f l)) (tally f l) + bit (f x)
       go true e = omega arith
       go false e = e
 
@@ -109,7 +111,7 @@ count-add f n e l (suc G) m = go (λ y. count-add f n e l G y) (cases-eq (suc G)
         rw (here, eq-eqb (suc G) n y) (ap suc same)
     go ih (inr y) = both (f (suc G)) (eqb (suc G) n) (ne-eqb (suc G) n y) (ih (omega arith))
       where
-        both : (a b : Bool) → b ≡ false → count (λ i. eqb i n || f i) G ≡ suc (count f G) → cond (b || a) (suc (count (λ i. eqb i n || f i) G)) (count (λ i. eqb i n || f i) G) ≡ suc (cond a (suc (count f G)) (count f G))
+        both : (a b : Bool) → b ≡ false → count (λ i. eqb i n || f i) G ≡ suc (count f G) →
+            cond (b || a) (suc (count (λ i. eqb i n || f i) G)) (count (λ i. eqb i n || f i) G) ≡ suc (cond a (suc (count f G)) (count f G))
         both true b z d = rw z (ap suc d)
         both false b z d = rw z d
-

@@ -1,4 +1,4 @@
--- Opening a bank: what is accepted, and that it is sound; and every call, opened or not. Assumes nothing.
+-- Opening a bank: what is accepted, and that it is sound; and every call, opened or not.
 use mathlib.Core.Bool.{Bool, cond, false, true}
 use mathlib.Core.List.{List, [], map, _∷_}
 use mathlib.Core.Path.{ap, fun-ext, refl, subst, sym, _∙_, _≡_}
@@ -20,7 +20,7 @@ use Rattle.law.specs.Store.{Store, open-count}
 use Rattle.law.specs.World.{World, board-of, world-plain}
 use Rattle.law.proofs.Numbers.{Lowest, lowest-is}
 use Rattle.law.proofs.Queues.{orderly-opened}
-use Rattle.law.proofs.Simulated.{every-world-call}
+use Rattle.law.proofs.SimulatedSteps.{every-world-call}
 use Rattle.law.proofs.Stores.{commits}
 
 -- a store that opening accepted
@@ -129,7 +129,8 @@ pub every-opening : EveryOpening
 every-opening (Middle.opened w) q = (record { answer = refl; after = refl; sound = q }, refl)
 every-opening (Middle.unopened w) q = go (accepted (opening (w .bank))) refl
   where
-    go : (b : Bool) → accepted (opening (w .bank)) ≡ b → Follows (opening (w .bank), cond b (PlainBoard.opened (just-opened (start-of (w .bank)) (length (w .bank)))) PlainBoard.unopened) (opening (w .bank)) (cond b (Middle.opened (with-start w)) (Middle.unopened w)) × (bank-of (cond b (Middle.opened (with-start w)) (Middle.unopened w)) ≡ w .bank)
+    go : (b : Bool) → accepted (opening (w .bank)) ≡ b →
+        Follows (opening (w .bank), cond b (PlainBoard.opened (just-opened (start-of (w .bank)) (length (w .bank)))) PlainBoard.unopened) (opening (w .bank)) (cond b (Middle.opened (with-start w)) (Middle.unopened w)) × (bank-of (cond b (Middle.opened (with-start w)) (Middle.unopened w)) ≡ w .bank)
     go true e =
         let ok : opening (w .bank) ≡ done = accepted-done (w .bank) e in
         let is : with-start w ≡ opened-world (w .bank) = with-start-is w q in

@@ -1,4 +1,4 @@
--- The places of a store: which are open, and which is picked. Assumes nothing.
+-- The places of a store: which are open, and which is picked.
 use mathlib.Core.Bool.{Bool, false, true}
 use mathlib.Core.List.{List, [], map, _∷_}
 use mathlib.Core.Path.{ap, refl, sym, _∙_, _≡_}
@@ -62,7 +62,8 @@ open-marks (None ∷ l) = open-marks l
 open-marks (Some x ∷ l) = ap suc (open-marks l)
 
 -- the place that is picked is not open
-pub picked-shut : (pick : List Bool → ℕ) → Picks pick → (σ : Store) → 16 ≤ length (σ .places) → open-count (σ .places) < 16 → (picked pick σ < length (σ .places)) × (place σ (picked pick σ) ≡ None)
+pub picked-shut : (pick : List Bool → ℕ) → Picks pick → (σ : Store) → 16 ≤ length (σ .places) → open-count (σ .places) < 16 →
+    (picked pick σ < length (σ .places)) × (place σ (picked pick σ) ≡ None)
 picked-shut pick h σ l m =
     let n : length (map is-open (σ .places)) ≡ length (σ .places) = length-map (σ .places) is-open in
     let g = h (map is-open (σ .places)) (omega arith) (omega (arith, open-marks (σ .places))) in

@@ -1,4 +1,4 @@
--- A whole run: opened, call after call, and what it promises at its end. Assumes nothing.
+-- A whole run: opened, call after call, and what it promises at its end.
 use mathlib.Core.Bool.{Bool, false, true}
 use mathlib.Core.List.{List, [], append-assoc, map, _++_, _∷_}
 use mathlib.Core.Path.{ap, refl, subst, sym, _∙_, _≡_}
@@ -36,7 +36,8 @@ unfolding run-of
 ran-none bank a m f e = record { answers = refl; plain = f .after ∙ rw (ap accepted (sym (f .answer)) ∙ e); sound = f .sound }
 
 -- one more call
-pub ran-more : (start : Board) (K : ℕ) (cs : List Call) (h : History) (m : Middle) (c : Call) (a : Answer) (n : Middle) → Ran start K cs h m → Follows (board-step c (plain-of m)) a n → Ran start K (cs ++ c ∷ []) (event c a ∷ h) n
+pub ran-more : (start : Board) (K : ℕ) (cs : List Call) (h : History) (m : Middle) (c : Call) (a : Answer) (n : Middle) → Ran start K cs h m →
+    Follows (board-step c (plain-of m)) a n → Ran start K (cs ++ c ∷ []) (event c a ∷ h) n
 ran-more start K cs h m c a n r f =
     let p : Plain = run cs [] (just-opened start K) .1 in
     let e = run-push step cs c [] (just-opened start K) in
@@ -65,7 +66,8 @@ served bank lawful queue h m r =
     same : map board-of (bank-of m) ≡ run queue [] (just-opened (start-of bank) (length bank)) .1 .boards
     same = bank-boards m (run queue [] (just-opened (start-of bank) (length bank)) .1) (r .plain)
 
-pub promised-served : (bank : List Store) → LawfulBank bank → (queue : List Call) (a : Answer) (h : History) (m : Middle) → a ≡ opening bank → accepted a ≡ true → Ran (start-of bank) (length bank) queue h m → Promised bank queue a h (bank-of m)
+pub promised-served : (bank : List Store) → LawfulBank bank → (queue : List Call) (a : Answer) (h : History) (m : Middle) → a ≡ opening bank →
+    accepted a ≡ true → Ran (start-of bank) (length bank) queue h m → Promised bank queue a h (bank-of m)
 promised-served bank lawful queue a h m e d r = record { opening = e; served = λ _. served bank lawful queue h m r; refused = λ x. absurd (both-ways (accepted a) x d) }
 
 -- a refusal answers no call and leaves the bank
@@ -73,7 +75,8 @@ pub promised-refused : (bank : List Store) (queue : List Call) (a : Answer) → 
 promised-refused bank queue a e d = record { opening = e; served = λ x. absurd (both-ways (accepted a) d x); refused = λ _. (refl, refl) }
 
 -- the rest of a queue
-ran-on : (pick : List Bool → ℕ) → Picks pick → (start : Board) (K : ℕ) (cs made : List Call) (h : History) (m : Middle) → Ran start K made h m → Ran start K (made ++ cs) (run-of (middle-step pick) cs h m .0) (run-of (middle-step pick) cs h m .1)
+ran-on : (pick : List Bool → ℕ) → Picks pick → (start : Board) (K : ℕ) (cs made : List Call) (h : History) (m : Middle) → Ran start K made h m →
+    Ran start K (made ++ cs) (run-of (middle-step pick) cs h m .0) (run-of (middle-step pick) cs h m .1)
 unfolding run-of
 ran-on pick picks start K [] made h m r = rw (append-nil made) r
 ran-on pick picks start K (c ∷ cs) made h m r =
@@ -86,7 +89,8 @@ every-queue pick picks bank lawful queue = go (accepted (opened-over bank .0)) r
     f : Follows (board-open bank PlainBoard.unopened) (opened-over bank .0) (opened-over bank .1) × (bank-of (opened-over bank .1) ≡ bank)
     f = every-opening (Middle.unopened (new-world bank)) (every-making bank lawful)
 
-    go : (b : Bool) → accepted (opened-over bank .0) ≡ b → Promised bank queue (opened-over bank .0) (run-from pick queue b (opened-over bank .1) .0) (bank-of (run-from pick queue b (opened-over bank .1) .1))
+    go : (b : Bool) → accepted (opened-over bank .0) ≡ b →
+        Promised bank queue (opened-over bank .0) (run-from pick queue b (opened-over bank .1) .0) (bank-of (run-from pick queue b (opened-over bank .1) .1))
     go true e =
         promised-served bank lawful queue (opened-over bank .0) (run-of (middle-step pick) queue [] (opened-over bank .1) .0) (run-of (middle-step pick) queue [] (opened-over bank .1) .1) refl e
         (ran-on pick picks (start-of bank) (length bank) queue [] [] (opened-over bank .1) (ran-none bank (opened-over bank .0) (opened-over bank .1) (f .0) e))

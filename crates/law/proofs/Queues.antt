@@ -1,4 +1,4 @@
--- A queue of any length on the plain board keeps the law, and meets no fault. Assumes nothing.
+-- A queue of any length on the plain board keeps the law, and meets no fault.
 use mathlib.Core.Bool.{Bool, cond, false, true}
 use mathlib.Core.List.{List, [], _∷_}
 use mathlib.Core.Path.{refl, _≡_}
@@ -25,11 +25,12 @@ use Rattle.law.specs.Transactions.{clashes, verdict}
 use Rattle.law.specs.Words.{facts}
 use Rattle.law.specs.Writes.{is-empty}
 use Rattle.law.proofs.Cases.{by-check, by-transaction}
-use Rattle.law.proofs.Orderly.{orderly-step}
+use Rattle.law.proofs.OrderlySteps.{orderly-step}
 use Rattle.law.proofs.Rights.{KeptBy, good}
 use Rattle.law.proofs.Worlds.{replicas}
 
-pub runs : (start : Board) (K : ℕ) (queue : List Call) (h : History) (p : Plain) → Orderly p → KeptBy start K (facts h) p → AllRight start K h → KeptBy start K (facts (run queue h p .0)) (run queue h p .1) × AllRight start K (run queue h p .0)
+pub runs : (start : Board) (K : ℕ) (queue : List Call) (h : History) (p : Plain) → Orderly p → KeptBy start K (facts h) p → AllRight start K h →
+    KeptBy start K (facts (run queue h p .0)) (run queue h p .1) × AllRight start K (run queue h p .0)
 unfolding run-of
 runs start K [] h p ord q r = (q, r)
 runs start K (c ∷ cs) h p ord q r = let g = good start K (facts h) p ord q c in runs start K cs (event c (step c p .0) ∷ h) (step c p .1) (orderly-step p ord c) (g .kept) (g .right, r)
@@ -60,7 +61,8 @@ orderly-opened start K =
       transactions = λ t a b. absurd (omega arith);
     }
 
-pub law-of-run : (start : Board) (K : ℕ) (queue : List Call) → (0 < K → length start ≡ 128) → Law start K (run queue [] (just-opened start K) .0) (run queue [] (just-opened start K) .1 .boards)
+pub law-of-run : (start : Board) (K : ℕ) (queue : List Call) → (0 < K → length start ≡ 128) →
+    Law start K (run queue [] (just-opened start K) .0) (run queue [] (just-opened start K) .1 .boards)
 law-of-run start K queue e =
     let r = runs start K queue [] (just-opened start K) (orderly-opened start K) (kept-opened start K e) tt in
     record {
@@ -108,4 +110,3 @@ pub no-faults : (queue : List Call) (h : History) (p : Plain) → NoFault h → 
 unfolding run-of
 no-faults [] h p n = n
 no-faults (c ∷ cs) h p n = no-faults cs (event c (step c p .0) ∷ h) (step c p .1) (answers-no-fault p c, n)
-

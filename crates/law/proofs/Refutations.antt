@@ -1,4 +1,4 @@
--- What the law or the plain board shuts out. Assumes nothing.
+-- What the law or the plain board shuts out.
 use mathlib.Core.Bool.{Bool, cond, false, true}
 use mathlib.Core.List.{List}
 use mathlib.Core.Path.{refl, _≡_}

@@ -1,4 +1,4 @@
--- Every call of the plain board is answered right by the words of the queue. Assumes nothing.
+-- Every call of the plain board is answered right by the words of the queue.
 use mathlib.Core.Bool.{Bool, cond, false, not, true, _||_}
 use mathlib.Core.List.{List, [], _∷_}
 use mathlib.Core.Logic.{⊎-elim, _⊎_}
@@ -52,7 +52,8 @@ module _ (start : Board) (K : ℕ) (h : Facts) (p : Plain) (ord : Orderly p) (q 
   applied-is : (k n : ℕ) → p .applied k n ≡ is-applied h k n
   applied-is k n = ap (λ (f : ℕ → ℕ → Bool). f k n) (q .applied)
 
-  own-is : (t : ℕ) (b : Board) (u : Pairs) → 1 ≤ t → t ≤ length (p .transactions) → transaction p t .state ≡ live b u → LiveOk start (write-set h) (last-write h t) (snapshot h t) (live b u)
+  own-is : (t : ℕ) (b : Board) (u : Pairs) → 1 ≤ t → t ≤ length (p .transactions) → transaction p t .state ≡ live b u →
+      LiveOk start (write-set h) (last-write h t) (snapshot h t) (live b u)
   own-is t b u l m e = subst (LiveOk start (write-set h) (last-write h t) (snapshot h t)) e (q .transactions t l m .own)
 
   good-begin : (k : ℕ) → Good start K h (Begin k) (step (Begin k) p)
@@ -74,7 +75,8 @@ module _ (start : Board) (K : ℕ) (h : Facts) (p : Plain) (ord : Orderly p) (q 
       no : (n : ℕ) → Good start K h (Read t j) (refused n [], p)
       no n = record { kept = q; right = λ e. absurd (both-ways false refl e) }
 
-      right : (b : Board) (u : Pairs) → LiveOk start (write-set h) (last-write h t) (snapshot h t) (live b u) → j < 128 → told (over (lookup u j) (value b j)) ≡ told (over (last-write h t j) (value-after start h (snapshot h t) j))
+      right : (b : Board) (u : Pairs) → LiveOk start (write-set h) (last-write h t) (snapshot h t) (live b u) → j < 128 →
+          told (over (lookup u j) (value b j)) ≡ told (over (last-write h t j) (value-after start h (snapshot h t) j))
       right b u o d = let c : value b j ≡ value-after start h (snapshot h t) j = o .1 j d in rw (o .0 j, c)
 
   good-write : (t j v : ℕ) → Good start K h (Write t j v) (step (Write t j v) p)
@@ -86,7 +88,8 @@ module _ (start : Board) (K : ℕ) (h : Facts) (p : Plain) (ord : Orderly p) (q 
       no : (n : ℕ) → Good start K h (Write t j v) (refused n [], p)
       no n = record { kept = q; right = tt }
 
-  kept-idle : (t : ℕ) (e : TransactionState) → 1 ≤ t → t ≤ length (p .transactions) → ((s : ℕ) → LiveOk start (write-set h) (last-write h t) s e) → KeptBy start K h (with-transaction p t (in-state e (transaction p t)))
+  kept-idle : (t : ℕ) (e : TransactionState) → 1 ≤ t → t ≤ length (p .transactions) → ((s : ℕ) → LiveOk start (write-set h) (last-write h t) s e) →
+      KeptBy start K h (with-transaction p t (in-state e (transaction p t)))
   kept-idle t e l m idle = kept-ended start K h p q t e l m idle
 
   good-giveUp : (t : ℕ) → Good start K h (GiveUp t) (step (GiveUp t) p)
@@ -108,13 +111,15 @@ module _ (start : Board) (K : ℕ) (h : Facts) (p : Plain) (ord : Orderly p) (q 
       no n = record { kept = q; right = tt }
 
       -- a clash of the plain board is one of the queue's, and the other way round
-      clash-of : (u : Pairs) → ((j : ℕ) → lookup u j ≡ last-write h t j) → transaction p t .s ≡ snapshot h t → (m : ℕ) → 1 ≤ m → m ≤ given h → clashes N (transaction p t .s) u m ≡ true → Clash h t m
+      clash-of : (u : Pairs) → ((j : ℕ) → lookup u j ≡ last-write h t j) → transaction p t .s ≡ snapshot h t → (m : ℕ) → 1 ≤ m → m ≤ given h →
+          clashes N (transaction p t .s) u m ≡ true → Clash h t m
       clash-of u o saw m x y e = let a = and-parts (ltb (transaction p t .s) m) (clash (pairs N m) u) e in record { later = omega (arith, ltb-true (transaction p t .s) m (a .0)); given = y; clashing = to-words u m (last-write h t) o x y (a .1) }
 
       clashed : (u : Pairs) → ((j : ℕ) → lookup u j ≡ last-write h t j) → transaction p t .s ≡ snapshot h t → (m : ℕ) → Clash h t m → clashes N (transaction p t .s) u m ≡ true
       clashed u o saw m c = and-from (ltb (transaction p t .s) m) (clash (pairs N m) u) (lt-ltb (transaction p t .s) m (omega (arith, c .later))) (from-words u m (last-write h t) o (omega (arith, c .later)) (c .given) (c .clashing))
 
-      judged : (b : Board) (u : Pairs) → 1 ≤ t → t ≤ length (p .transactions) → transaction p t .state ≡ live b u → is-empty u ≡ false → (r : ℕ) → Lowest (clashes N (transaction p t .s) u) (length N) r → Good start K h (Commit t) (verdict r t u p)
+      judged : (b : Board) (u : Pairs) → 1 ≤ t → t ≤ length (p .transactions) → transaction p t .state ≡ live b u → is-empty u ≡ false → (r : ℕ) →
+          Lowest (clashes N (transaction p t .s) u) (length N) r → Good start K h (Commit t) (verdict r t u p)
       judged b u l m e full zero f =
           let o = own-is t b u l m e in
           let found = some-object u full in
@@ -133,7 +138,8 @@ module _ (start : Board) (K : ℕ) (h : Facts) (p : Plain) (ord : Orderly p) (q 
             );
           }
 
-      own : (b : Board) (u : Pairs) → 1 ≤ t → t ≤ length (p .transactions) → transaction p t .state ≡ live b u → (c : Bool) → is-empty u ≡ c → Good start K h (Commit t) (cond c (read-only, with-transaction p t (in-state committed (transaction p t))) (verdict (lowest (clashes N (transaction p t .s) u) (length N)) t u p))
+      own : (b : Board) (u : Pairs) → 1 ≤ t → t ≤ length (p .transactions) → transaction p t .state ≡ live b u → (c : Bool) → is-empty u ≡ c →
+          Good start K h (Commit t) (cond c (read-only, with-transaction p t (in-state committed (transaction p t))) (verdict (lowest (clashes N (transaction p t .s) u) (length N)) t u p))
       own b u l m e true z = record { kept = kept-idle t committed l m (λ _. tt); right = λ j. sym (own-is t b u l m e .0 j) ∙ empty-none u j z }
       own b u l m e false z = judged b u l m e z (lowest (clashes N (transaction p t .s) u) (length N)) (lowest-is (clashes N (transaction p t .s) u) (length N))
 
@@ -164,7 +170,8 @@ module _ (start : Board) (K : ℕ) (h : Facts) (p : Plain) (ord : Orderly p) (q 
       no : (r : ℕ) → (r ≡ 33 → ⊥) → (Passes K h k n → ⊥) → Good start K h (Apply k n) (refused r [], p)
       no r other f = record { kept = q; right = record { through = λ a. absurd (f a); checked = λ z. absurd (both-ways false refl z); held = λ vs e. absurd (let z : r ≡ 33 = cc in other z) } }
 
-      free : k < K → 1 ≤ n → n ≤ given h → is-applied h k n ≡ false → (r : ℕ) → Lowest (holds (p .applied k) N n) (n - 1) r → Good start K h (Apply k n) (unless-held r p (done, played-at k n p))
+      free : k < K → 1 ≤ n → n ≤ given h → is-applied h k n ≡ false → (r : ℕ) → Lowest (holds (p .applied k) N n) (n - 1) r →
+          Good start K h (Apply k n) (unless-held r p (done, played-at k n p))
       free i x y new r l = go r l
         where
           -- what holds n back on the plain board holds it back in the queue's words, and the other way round
@@ -224,4 +231,3 @@ module _ (start : Board) (K : ℕ) (h : Facts) (p : Plain) (ord : Orderly p) (q 
   good (State t) = good-askState t
   good (WriteSet n) = good-askSet n
   good (Applied k) = good-askApplied k
-

@@ -1,4 +1,4 @@
--- What a store answers where its meaning allows it. Assumes nothing.
+-- What a store answers where its meaning allows it.
 use mathlib.Core.Bool.{Bool, cond, false, true}
 use mathlib.Core.List.{[], _∷_}
 use mathlib.Core.Logic.{⊎-elim, _⊎_}
@@ -43,10 +43,12 @@ written-lookup low ((j, v) ∷ w) x r o = written-lookup (suc j) w (writes j v x
     go true (Some c) p q = absurd (omega (arith, rising-object (suc j) w (rising-parts low j v w r .2) o (ap isSome q) .0, eqb-true o j p))
     go false b p q = refl
 
-pub writes-one : (σ : Store) (i : ℕ) (x : Place) (j v : ℕ) → place σ i ≡ Some x → j < 128 → room j (x .own) ≡ true → store-write σ i j v ≡ fine (with-place σ i (Some (writes j v x)))
+pub writes-one : (σ : Store) (i : ℕ) (x : Place) (j v : ℕ) → place σ i ≡ Some x → j < 128 → room j (x .own) ≡ true →
+    store-write σ i j v ≡ fine (with-place σ i (Some (writes j v x)))
 writes-one σ i x j v e b n = rw (lt-ltb i (length (σ .places)) (some-within (σ .places) i x e), e, lt-ltb j 128 b, n)
 
-pub writes-all : (σ : Store) (i : ℕ) → i < length (σ .places) → (low : ℕ) (w : Pairs) (x : Place) → rising low w ≡ true → length (x .own) + length w ≤ 8 → store-write-all w i (with-place σ i (Some x)) ≡ fine (with-place σ i (Some (written-all w x)))
+pub writes-all : (σ : Store) (i : ℕ) → i < length (σ .places) → (low : ℕ) (w : Pairs) (x : Place) → rising low w ≡ true →
+    length (x .own) + length w ≤ 8 → store-write-all w i (with-place σ i (Some x)) ≡ fine (with-place σ i (Some (written-all w x)))
 writes-all σ i l low [] x r n = refl
 writes-all σ i l low ((j, v) ∷ w) x r n =
     let parts = rising-parts low j v w r in
@@ -72,7 +74,8 @@ commits-one : (σ : Store) (i : ℕ) (x : Place) → place σ i ≡ Some x → i
 commits-one σ i x e f c l = rw (lt-ltb i (length (σ .places)) (some-within (σ .places) i x e), e, f, c, ne-eqb (σ .commits) (σ .most) (omega arith))
 
 -- a place's own commit
-pub commits : (σ : Store) (i : ℕ) (x : Place) → place σ i ≡ Some x → is-empty (x .own) ≡ false → is-overtaken (x .own) (x .overtaken) ≡ false → σ .commits < σ .most → (τ : Store) × (store-commit σ i ≡ fine τ) × Played σ (x .own) i τ
+pub commits : (σ : Store) (i : ℕ) (x : Place) → place σ i ≡ Some x → is-empty (x .own) ≡ false → is-overtaken (x .own) (x .overtaken) ≡ false →
+    σ .commits < σ .most → (τ : Store) × (store-commit σ i ≡ fine τ) × Played σ (x .own) i τ
 commits σ i x e f c l = (
   record { board = play (x .own) (σ .board); commits = suc (σ .commits); most = σ .most; places = set (overtake-all (x .own) (σ .places)) i None },
   commits-one σ i x e f c l,
@@ -105,7 +108,8 @@ overtaken-none [] = refl
 overtaken-none ((j, v) ∷ w) = overtaken-none w
 
 -- a write set from elsewhere
-pub plays : (σ : Store) (i : ℕ) (w : Pairs) → i < length (σ .places) → place σ i ≡ None → Fine w → is-empty w ≡ false → σ .commits < σ .most → (τ : Store) × (store-play w i σ ≡ fine τ) × Played σ w i τ
+pub plays : (σ : Store) (i : ℕ) (w : Pairs) → i < length (σ .places) → place σ i ≡ None → Fine w → is-empty w ≡ false → σ .commits < σ .most →
+    (τ : Store) × (store-play w i σ ≡ fine τ) × Played σ w i τ
 unfolding first-of
 plays σ i w l e g f c =
     let y = commits ρ i x there-x own-full (rw (taken w (fresh (σ .board))) (overtaken-none (x .own))) c in (
@@ -146,7 +150,8 @@ plays σ i w l e g f c =
     own-full : is-empty (x .own) ≡ false
     own-full = let d = some-object w f in object-full (x .own) (d .0) (ap isSome (look (d .0)) ∙ d .1)
 
-    counted : (τ : Store) → open-count (τ .places) + bit (is-open (place ρ i)) ≡ open-count (ρ .places) → open-count (τ .places) + bit (is-open (place σ i)) ≡ open-count (σ .places)
+    counted : (τ : Store) → open-count (τ .places) + bit (is-open (place ρ i)) ≡ open-count (ρ .places) →
+        open-count (τ .places) + bit (is-open (place σ i)) ≡ open-count (σ .places)
     counted τ a =
         let d : is-open (place ρ i) ≡ true = rw there-x in
         let g : is-open (place σ i) ≡ false = rw e in

@@ -1,4 +1,4 @@
--- How the plain board of a world follows a change of the world. Assumes nothing.
+-- How the plain board of a world follows a change of the world.
 use mathlib.Core.Bool.{true}
 use mathlib.Core.List.{List, [], map, _∷_}
 use mathlib.Core.Path.{ap, refl, subst, _∙_, _≡_}
@@ -56,7 +56,9 @@ state-kept Phase.committed o′ o h = refl
 state-kept Phase.aborted o′ o h = refl
 state-kept Phase.given-up o′ o h = refl
 
-pub transaction-kept : (after bank : List Store) (x : Entry) → (is-working (x .phase) ≡ true → Alike (place (store-at after (x .home)) (x .place)) (place (store-at bank (x .home)) (x .place))) → transaction-of after x ≡ transaction-of bank x
+pub transaction-kept : (after bank : List Store) (x : Entry) →
+    (is-working (x .phase) ≡ true → Alike (place (store-at after (x .home)) (x .place)) (place (store-at bank (x .home)) (x .place))) →
+    transaction-of after x ≡ transaction-of bank x
 transaction-kept after bank x h = ap (λ (e : TransactionState). record { home = x .home; s = x .s; state = e }) (state-kept (x .phase) (place (store-at after (x .home)) (x .place)) (place (store-at bank (x .home)) (x .place)) h)
 
 pub map-same : (f g : Entry → Transaction) (T : List Entry) → ((o : ℕ) → o < length T → f (getD T o no-entry) ≡ g (getD T o no-entry)) → map f T ≡ map g T
@@ -64,7 +66,8 @@ map-same f g [] h = refl
 map-same f g (x ∷ T) h = let a : f x ≡ g x = h 0 (omega arith) in let ih = map-same f g T (λ o l. h (suc o) (omega arith)) in cc
 
 -- the entry at i is changed, and the others give the same
-pub map-changed : (f g : Entry → Transaction) (T : List Entry) (i : ℕ) (x : Entry) → ((o : ℕ) → o < length T → (o ≡ i → ⊥) → f (getD T o no-entry) ≡ g (getD T o no-entry)) → map f (set T i x) ≡ set (map g T) i (f x)
+pub map-changed : (f g : Entry → Transaction) (T : List Entry) (i : ℕ) (x : Entry) →
+    ((o : ℕ) → o < length T → (o ≡ i → ⊥) → f (getD T o no-entry) ≡ g (getD T o no-entry)) → map f (set T i x) ≡ set (map g T) i (f x)
 map-changed f g [] i x h = refl
 map-changed f g (y ∷ T) zero x h = ap (λ l. f x ∷ l) (map-same f g T (λ o l. h (suc o) (omega arith) (omega arith)))
 map-changed f g (y ∷ T) (suc i) x h = let a : f y ≡ g y = h 0 (omega arith) (omega arith) in let ih = map-changed f g T i x (λ o l n. h (suc o) (omega arith) (omega arith)) in cc

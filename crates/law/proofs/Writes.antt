@@ -1,4 +1,4 @@
--- Own writes: looked up, put, rising. Assumes nothing.
+-- Own writes: looked up, put, rising.
 use mathlib.Core.Bool.{Bool, cond, false, true, _&&_}
 use mathlib.Core.List.{[], _∷_}
 use mathlib.Core.Logic.{inl, inr, _⊎_}
@@ -38,7 +38,8 @@ pub rising-object : (low : ℕ) (u : Pairs) → rising low u ≡ true → (o : �
 rising-object low [] r o e = absurd (both-ways false refl e)
 rising-object low ((j, v) ∷ u) r o e = go (λ c d. rising-object (suc j) u c o d) (rising-parts low j v u r) (some-cond (eqb o j) v (lookup u o) e)
   where
-    go : (rising (suc j) u ≡ true → stands u o ≡ true → (suc j ≤ o) × (o < 128)) → (low ≤ j) × (j < 128) × (rising (suc j) u ≡ true) → (eqb o j ≡ true) ⊎ (stands u o ≡ true) → (low ≤ o) × (o < 128)
+    go : (rising (suc j) u ≡ true → stands u o ≡ true → (suc j ≤ o) × (o < 128)) → (low ≤ j) × (j < 128) × (rising (suc j) u ≡ true) →
+        (eqb o j ≡ true) ⊎ (stands u o ≡ true) → (low ≤ o) × (o < 128)
     go ih (a, b, c) (inl d) = let s : o ≡ j = eqb-true o j d in (omega arith, omega arith)
     go ih (a, b, c) (inr d) = let h = ih c d in (omega (arith, h .0), h .1)
 
@@ -55,7 +56,9 @@ pub put-again : (low j v : ℕ) (u : Pairs) → rising low u ≡ true → stands
 put-again low j v [] r e = absurd (both-ways false refl e)
 put-again low j v ((i, x) ∷ u) r e = go (λ c z. put-again (suc i) j v u c z) (rising-parts low i x u r .2) (eqb j i) (ltb j i) refl refl e
   where
-    go : (rising (suc i) u ≡ true → stands u j ≡ true → length (put j v u) ≡ length u) → rising (suc i) u ≡ true → (a b : Bool) → eqb j i ≡ a → ltb j i ≡ b → isSome (cond a (Some x) (lookup u j)) ≡ true → length (cond a ((j, v) ∷ u) (cond b ((j, v) ∷ (i, x) ∷ u) ((i, x) ∷ put j v u))) ≡ suc (length u)
+    go : (rising (suc i) u ≡ true → stands u j ≡ true → length (put j v u) ≡ length u) → rising (suc i) u ≡ true → (a b : Bool) → eqb j i ≡ a →
+        ltb j i ≡ b → isSome (cond a (Some x) (lookup u j)) ≡ true →
+        length (cond a ((j, v) ∷ u) (cond b ((j, v) ∷ (i, x) ∷ u) ((i, x) ∷ put j v u))) ≡ suc (length u)
     go ih c true b p q z = refl
     go ih c false true p q z = absurd (omega (arith, rising-object (suc i) u c j z .0, ltb-true j i q))
     go ih c false false p q z = ap suc (ih c z)
@@ -64,7 +67,8 @@ pub put-rising : (low j v : ℕ) (u : Pairs) → low ≤ j → j < 128 → risin
 put-rising low j v [] l m r = rising-from low j v [] l m refl
 put-rising low j v ((i, x) ∷ u) l m r = go (λ d c. put-rising (suc i) j v u d m c) (rising-parts low i x u r) (eqb j i) (ltb j i) refl refl
   where
-    go : (suc i ≤ j → rising (suc i) u ≡ true → rising (suc i) (put j v u) ≡ true) → (low ≤ i) × (i < 128) × (rising (suc i) u ≡ true) → (a b : Bool) → eqb j i ≡ a → ltb j i ≡ b → rising low (cond a ((j, v) ∷ u) (cond b ((j, v) ∷ (i, x) ∷ u) ((i, x) ∷ put j v u))) ≡ true
+    go : (suc i ≤ j → rising (suc i) u ≡ true → rising (suc i) (put j v u) ≡ true) → (low ≤ i) × (i < 128) × (rising (suc i) u ≡ true) →
+        (a b : Bool) → eqb j i ≡ a → ltb j i ≡ b → rising low (cond a ((j, v) ∷ u) (cond b ((j, v) ∷ (i, x) ∷ u) ((i, x) ∷ put j v u))) ≡ true
     go ih (a, b, c) true t p q = let e : j ≡ i = eqb-true j i p in rising-from low j v u l m (rw e c)
     go ih (a, b, c) false true p q = let d : j < i = ltb-true j i q in rising-from low j v ((i, x) ∷ u) l m (rising-from (suc j) i x u d b c)
     go ih (a, b, c) false false p q = let d : i ≤ j = ltb-false j i q in let n : j ≡ i → ⊥ = eqb-false j i p in rising-from low i x (put j v u) a b (ih (omega arith) c)
