@@ -1,0 +1,3 @@
+pub mod Model
+pub mod Faults
+pub mod Works
