@@ -1,1 +1,3 @@
 pub mod Own
+pub mod Stores
+pub mod Lawful

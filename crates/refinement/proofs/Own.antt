@@ -18,7 +18,10 @@ use Rattle.tickets.specs.WriteSets.{Pairs, lookup, stands, play, over}
 use Rattle.tickets.proofs.Playing.{value-play, length-play}
 use Rattle.stores.specs.Model.{Place, no-writes, with-write, count-below, any-below, orElse, played}
 use Rattle.stores.proofs.Steps.{length-played, getD-played}
-use Rattle.refinement.specs.Temp.{told-pair, pairs-from, put, is-empty, clashing}
+use Rattle.ledger.specs.Own.{told-pair, pairs-from}
+use Rattle.law.specs.Writes.{put, is-empty}
+use Rattle.law.specs.Store.{is-overtaken}
+use Rattle.refinement.specs.Stores.{all-pairs}
 
 -- what is told of one object, and of the others
 lookup-told : (j i : ℕ) (o : Option ℕ) (ps : Pairs) → lookup (told-pair j o ps) i ≡ cond (eqb i j && isSome o) o (lookup ps i)
@@ -97,13 +100,13 @@ module _ (own : ℕ → Option ℕ) where
   is-clash f i = isSome (own i) && f i
 
   -- an overtaken object among the pairs
-  pub clash-among : (f : ℕ → Bool) (j n : ℕ) → (clashing (pairs-from own j n) f || any-below (is-clash f) j) ≡ any-below (is-clash f) (j + n)
+  pub clash-among : (f : ℕ → Bool) (j n : ℕ) → (is-overtaken (pairs-from own j n) f || any-below (is-clash f) j) ≡ any-below (is-clash f) (j + n)
   unfolding pairs-from
   clash-among f j zero = let e : j ≡ j + 0 = omega arith in ap (any-below (is-clash f)) e
   clash-among f j (suc n) = go (own j) refl ∙ (clash-among f (j + 1) n ∙ ap (any-below (is-clash f)) (omega arith))
     where
-      go : (o : Option ℕ) → own j ≡ o → (clashing (told-pair j o (pairs-from own (j + 1) n)) f || any-below (is-clash f) j) ≡ (clashing (pairs-from own (j + 1) n) f || any-below (is-clash f) (j + 1))
-      go (Some v) d = rw (any-next (is-clash f) j, ap isSome d) (swapped (f j) (clashing (pairs-from own (j + 1) n) f) (any-below (is-clash f) j))
+      go : (o : Option ℕ) → own j ≡ o → (is-overtaken (told-pair j o (pairs-from own (j + 1) n)) f || any-below (is-clash f) j) ≡ (is-overtaken (pairs-from own (j + 1) n) f || any-below (is-clash f) (j + 1))
+      go (Some v) d = rw (any-next (is-clash f) j, ap isSome d) (swapped (f j) (is-overtaken (pairs-from own (j + 1) n) f) (any-below (is-clash f) j))
       go None d = rw (any-next (is-clash f) j, ap isSome d) refl
 
   -- what is written below does not count
@@ -148,12 +151,9 @@ module _ (own : ℕ → Option ℕ) where
 
 -- ---- over all 128 objects
 
-same-else : (o : Option ℕ) (x : ℕ) → orElse o x ≡ over o x
+pub same-else : (o : Option ℕ) (x : ℕ) → orElse o x ≡ over o x
 same-else (Some v) x = refl
 same-else None x = refl
-
-abbrev pub all-pairs : (ℕ → Option ℕ) → Pairs
-all-pairs own = pairs-from own 0 128
 
 -- no object past the last is written
 abbrev pub Within : (ℕ → Option ℕ) → Type 0
@@ -168,8 +168,8 @@ module _ (own : ℕ → Option ℕ) where
   pub pairs-count : length (all-pairs own) ≡ count-below (is-written own) 128
   pairs-count = omega (arith, as-many own 0 128, count-none (is-written own))
 
-  pub pairs-clash : (f : ℕ → Bool) → clashing (all-pairs own) f ≡ any-below (is-clash own f) 128
-  pairs-clash f = sym (or-false (clashing (all-pairs own) f)) ∙ (ap (λ b. clashing (all-pairs own) f || b) (sym (any-none (is-clash own f))) ∙ clash-among own f 0 128)
+  pub pairs-clash : (f : ℕ → Bool) → is-overtaken (all-pairs own) f ≡ any-below (is-clash own f) 128
+  pairs-clash f = sym (or-false (is-overtaken (all-pairs own) f)) ∙ (ap (λ b. is-overtaken (all-pairs own) f || b) (sym (any-none (is-clash own f))) ∙ clash-among own f 0 128)
     where
       or-false : (b : Bool) → (b || false) ≡ b
       or-false true = refl

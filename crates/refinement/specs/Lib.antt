@@ -1,1 +1,5 @@
-pub mod Temp
+pub mod Stores
+pub mod Worlds
+pub mod Answers
+pub mod Steps
+pub mod Sound
