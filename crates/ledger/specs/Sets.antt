@@ -1,15 +1,17 @@
 -- Numbered write sets: where they are applied, and which stand in whose way.
 use mathlib.Core.Bool.{Bool, true, false, not, _&&_}
-use mathlib.Core.List.{List, []}
+use mathlib.Core.List.{List, [], map}
 use Prim.Native.Nat.{ℕ, _-_}
 use lib.Dec.{ltb}
 use lib.ListN.{length, getD, set}
+use Rattle.std.specs.Of.Vec.{vec-items}
 use Rattle.std.specs.declared.option.Option.{Option}
 use Rattle.tickets.specs.WriteSets.{Pairs, shares}
 use Rattle.tickets.specs.Meaning.{pairs}
 use Rattle.ledger.specs.declared.applied.Applied.{Applied}
 use Rattle.ledger.specs.declared.numbered.Numbered.{Numbered}
-use Rattle.ledger.specs.declared.counts.Progress.{Progress}
+use Rattle.ledger.specs.declared.progress.Progress.{Progress}
+use Rattle.ledger.specs.declared.write_sets.WriteSets.{WriteSets}
 use Rattle.ledger.specs.Words.{count, whole, lowest, some-number}
 
 -- a numbered write set: whose it is and where that is at home, the number that it had seen, its pairs, and by replica whether it is applied there
@@ -25,6 +27,10 @@ marks a = a .at
 
 abbrev pub set-of : Numbered → SetModel
 set-of x = record { home = x .home; s = x .s; transaction = x .transaction; pairs = pairs (x .set); applied = marks (x .applied) }
+
+-- the write sets that are held, from number 1 on
+abbrev pub sets-of : WriteSets → List SetModel
+sets-of us = map set-of (vec-items (us .items))
 
 -- what stands past the last number; no call reaches it
 abbrev pub no-set : SetModel

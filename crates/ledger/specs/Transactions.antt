@@ -4,6 +4,7 @@ use mathlib.Core.List.{List}
 use Prim.Native.Nat.{ℕ, _-_}
 use lib.Dec.{eqb}
 use lib.ListN.{getD}
+use Rattle.std.specs.Of.Vec.{vec-items}
 use Rattle.std.specs.Options.{isSome, valueOr}
 use Rattle.std.specs.declared.option.Option.{Option}
 use Rattle.std.specs.declared.option.Option.the-variants.{Some, None}
@@ -14,6 +15,7 @@ use Rattle.ledger.specs.declared.transaction.TransactionState.the-variants.{Op
 use Rattle.ledger.specs.declared.transaction.Event.{Event}
 use Rattle.ledger.specs.declared.transaction.Event.the-variants.{Read, Write, Commit, GiveUp, Applied}
 use Rattle.ledger.specs.declared.transaction.Transaction.{Transaction}
+use Rattle.ledger.specs.declared.transactions.Transactions.{Transactions}
 use Rattle.ledger.specs.Words.{tally}
 
 -- the state that a verdict leads to
@@ -45,6 +47,10 @@ takes q e = isSome (next q e)
 -- a transaction after an event, which it takes or not
 abbrev pub moved : Transaction → Event → Transaction
 moved x e = record { home = x .home; place = x .place; s = x .s; state = valueOr (next (x .state) e) (x .state) }
+
+-- the transactions that are held, from number 1 on
+abbrev pub txns-of : Transactions → List Transaction
+txns-of ts = vec-items (ts .items)
 
 -- what stands past the last transaction; no call reaches it
 abbrev pub no-transaction : Transaction

@@ -6,7 +6,7 @@ use tickets::WriteSet;
 pub struct Numbered {
     pub home: u8,
     pub s: u16,
-    pub transaction: u16,
+    pub transaction: u32,
     pub set: WriteSet,
     pub applied: Applied,
 }

@@ -9,11 +9,11 @@ use Rattle.std.specs.declared.result.Result.{Result}
 use Rattle.std.specs.declared.result.Result.the-variants.{Ok, Err}
 use Rattle.tickets.specs.WriteSets.{Pairs}
 use Rattle.ledger.specs.declared.transaction.Event.the-variants.{Applied}
-use Rattle.ledger.specs.Outcomes.{done, look, step}
+use Rattle.errands.specs.Outcomes.{done, look, step}
 use Rattle.ledger.specs.Transactions.{nth-transaction}
 use Rattle.ledger.specs.Sets.{SetModel, nth-set, is-applied, marked-set, lowest-holding, lowest-unapplied}
-use Rattle.ledger.specs.Places.{vacant}
-use Rattle.ledger.specs.Replay.{commit-at, replay}
+use Rattle.errands.specs.Places.{vacant}
+use Rattle.errands.specs.Replay.{commit-at, replay}
 use Rattle.machine.specs.declared.reason.Reason.{Reason}
 use Rattle.machine.specs.declared.reason.Reason.the-variants.{AlreadyApplied, HeldBack}
 use Rattle.machine.specs.Machine.{Machine, Came, with-sets, told, bind, through, replica-at, set-at}

@@ -6,14 +6,14 @@ use lib.Dec.{ltb}
 use lib.ListN.{length}
 use Rattle.std.specs.declared.result.Result.{Result}
 use Rattle.std.specs.declared.result.Result.the-variants.{Ok, Err}
-use Rattle.ledger.specs.declared.counts.Progress.{Progress}
+use Rattle.ledger.specs.declared.progress.Progress.{Progress}
 use Rattle.ledger.specs.declared.transaction.Transaction.{Transaction}
 use Rattle.ledger.specs.declared.transaction.TransactionState.the-variants.{Open}
-use Rattle.ledger.specs.Outcomes.{done, look, step}
+use Rattle.errands.specs.Outcomes.{done, look, step}
 use Rattle.ledger.specs.Transactions.{busy-count}
 use Rattle.ledger.specs.Sets.{progress-at}
-use Rattle.ledger.specs.Places.{vacant}
-use Rattle.ledger.specs.Replay.{begin-at}
+use Rattle.errands.specs.Places.{vacant}
+use Rattle.errands.specs.Replay.{begin-at}
 use Rattle.machine.specs.declared.reason.Reason.{Reason}
 use Rattle.machine.specs.declared.reason.Reason.the-variants.{Holes, Busy, TransactionsGiven}
 use Rattle.machine.specs.Machine.{Machine, Came, with-txns, bind, through, replica-at}

@@ -13,10 +13,10 @@ use Rattle.ledger.specs.declared.verdict.Verdict.{Verdict}
 use Rattle.ledger.specs.declared.verdict.Verdict.the-variants.{ReadOnly, Numbered, Clash}
 use Rattle.ledger.specs.declared.transaction.Transaction.{Transaction}
 use Rattle.ledger.specs.declared.transaction.Event.the-variants.{Commit}
-use Rattle.ledger.specs.Outcomes.{done, refused, look, step}
+use Rattle.errands.specs.Outcomes.{done, refused, look, step}
 use Rattle.ledger.specs.Sets.{SetModel, lowest-clash}
-use Rattle.ledger.specs.Own.{own-answer}
-use Rattle.ledger.specs.Replay.{commit-at, abort-at}
+use Rattle.errands.specs.Own.{own-answer}
+use Rattle.errands.specs.Replay.{commit-at, abort-at}
 use Rattle.machine.specs.declared.reason.Reason.{Reason}
 use Rattle.machine.specs.declared.reason.Reason.the-variants.{WriteSetsGiven}
 use Rattle.machine.specs.Machine.{Machine, Came, with-sets, told, raised, through, taking}

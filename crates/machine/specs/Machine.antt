@@ -13,10 +13,10 @@ use Rattle.banks.specs.Model.{told-count}
 use Rattle.ledger.specs.declared.transaction.Event.{Event}
 use Rattle.ledger.specs.declared.transaction.Transaction.{Transaction}
 use Rattle.ledger.specs.Words.{up-to}
-use Rattle.ledger.specs.Outcomes.{Outcome}
+use Rattle.errands.specs.Outcomes.{Outcome}
 use Rattle.ledger.specs.Transactions.{takes, moved, nth-transaction}
 use Rattle.ledger.specs.Sets.{SetModel, nth-set}
-use Rattle.ledger.specs.Replay.{AtBank}
+use Rattle.errands.specs.Replay.{AtBank}
 use Rattle.machine.specs.declared.reason.Reason.{Reason}
 use Rattle.machine.specs.declared.reason.Reason.the-variants.{NoReplica, NoTransaction, NoObject, NoWriteSet, NotOpened, TransactionNotOpen, Store}
 

@@ -10,8 +10,8 @@ use Rattle.std.specs.declared.result.Result.the-variants.{Ok, Err}
 use Rattle.tickets.specs.Boards.{Board}
 use Rattle.stores.specs.Model.{StoreModel}
 use Rattle.banks.specs.Model.{store-at, told-count}
-use Rattle.ledger.specs.Outcomes.{done, refused, look}
-use Rattle.ledger.specs.Copies.{used, first-above-top, first-unlike}
+use Rattle.errands.specs.Outcomes.{done, refused, look}
+use Rattle.errands.specs.Copies.{used, first-above-top, first-unlike}
 use Rattle.machine.specs.declared.reason.Reason.{Reason}
 use Rattle.machine.specs.declared.reason.Reason.the-variants.{TooManyReplicas, ReplicaUsed, ReplicaAboveTop, ReplicaUnlike, AlreadyOpened}
 use Rattle.machine.specs.Machine.{Machine, Came, bind}

@@ -5,7 +5,7 @@ use Rattle.std.specs.declared.result.Result.the-variants.{Ok}
 use Rattle.tickets.specs.Boards.{Board}
 use Rattle.stores.specs.Model.{value-answer}
 use Rattle.banks.specs.Model.{asked}
-use Rattle.ledger.specs.declared.counts.Progress.{Progress}
+use Rattle.ledger.specs.declared.progress.Progress.{Progress}
 use Rattle.ledger.specs.declared.transaction.TransactionState.{TransactionState}
 use Rattle.ledger.specs.Sets.{SetModel, progress-at}
 use Rattle.machine.specs.declared.reason.Reason.{Reason}

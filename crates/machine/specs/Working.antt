@@ -13,8 +13,8 @@ use Rattle.banks.specs.declared.fault.BankFault.the-variants as bank
 use Rattle.banks.specs.Model.{asked}
 use Rattle.ledger.specs.declared.transaction.Transaction.{Transaction}
 use Rattle.ledger.specs.declared.transaction.Event.the-variants.{Read, Write, GiveUp}
-use Rattle.ledger.specs.Outcomes.{done, look, step}
-use Rattle.ledger.specs.Replay.{AtBank, write-at, abort-at}
+use Rattle.errands.specs.Outcomes.{done, look, step}
+use Rattle.errands.specs.Replay.{AtBank, write-at, abort-at}
 use Rattle.machine.specs.declared.reason.Reason.{Reason}
 use Rattle.machine.specs.declared.reason.Reason.the-variants.{AboveTop, NinthObject, Store}
 use Rattle.machine.specs.Machine.{Machine, Came, with-stores, told, bind, raised, through, taking, object-at}

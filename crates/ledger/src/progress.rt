@@ -1,6 +1,5 @@
-// What is counted: the numbers applied at a replica, and the transactions that are busy there.
-
 // How many numbers are applied at a replica, and whether they are the first ones, without holes.
+
 #[derive(Clone, Copy, PartialEq, Eq, Debug)]
 pub struct Progress {
     pub applied: u16,

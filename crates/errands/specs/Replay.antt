@@ -11,8 +11,8 @@ use Rattle.banks.specs.declared.work.Unfinished.{Unfinished}
 use Rattle.banks.specs.declared.work.Unfinished.the-variants.{Ended, Back}
 use Rattle.banks.specs.Model.{asked, changed}
 use Rattle.banks.specs.Works.{refused}
-use Rattle.ledger.specs.Outcomes as outcomes
-use Rattle.ledger.specs.Outcomes.{Outcome, done, step}
+use Rattle.errands.specs.Outcomes as outcomes
+use Rattle.errands.specs.Outcomes.{Outcome, done, step}
 
 -- what a bank answers, and the stores that it is left with
 abbrev pub AtBank : Type 0 → Type 0

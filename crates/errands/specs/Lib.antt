@@ -1,0 +1,5 @@
+pub mod Outcomes
+pub mod Places
+pub mod Own
+pub mod Replay
+pub mod Copies

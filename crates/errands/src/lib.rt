@@ -1,0 +1,1 @@
+// What the middleware does at its bank: it gathers own writes, finds a place, plays a write set, and looks copies over.
