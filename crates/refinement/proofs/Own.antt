@@ -18,7 +18,7 @@ use Rattle.tickets.specs.WriteSets.{Pairs, lookup, stands, play, over}
 use Rattle.tickets.proofs.Playing.{value-play, length-play}
 use Rattle.stores.specs.Model.{Place, no-writes, with-write, count-below, any-below, orElse, played}
 use Rattle.stores.proofs.Steps.{length-played, getD-played}
-use Rattle.ledger.specs.Own.{told-pair, pairs-from}
+use Rattle.errands.specs.Own.{told-pair, pairs-from}
 use Rattle.law.specs.Writes.{put, is-empty}
 use Rattle.law.specs.Store.{is-overtaken}
 use Rattle.refinement.specs.Stores.{all-pairs}

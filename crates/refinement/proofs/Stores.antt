@@ -20,7 +20,7 @@ use Rattle.stores.specs.declared.fault.StoreFault.the-variants.{NoPlace, NoObje
 use Rattle.stores.specs.Faults.{number-of}
 use Rattle.stores.specs.Model as model
 use Rattle.stores.specs.Model.{StoreModel, OwnLawful}
-use Rattle.ledger.specs.Own.{pairs-from, some-pairs, own-set, own-answer}
+use Rattle.errands.specs.Own.{pairs-from, some-pairs, own-set, own-answer}
 use Rattle.law.specs.Writes.{put, room, is-empty}
 use Rattle.law.specs.Store.{Place, Store, Done, Got, Owned, with-place, begin-in, read-in, write-in, own-in, is-overtaken, overtake-in, overtake-all, commit-in, abort-in, store-begin, store-read, store-write, store-own, store-commit, store-abort}
 use Rattle.law.specs.Store.Done.{fine, failed}

@@ -4,7 +4,7 @@ use mathlib.Core.List.{[], _∷_}
 use Prim.Native.Nat.{ℕ}
 use Rattle.std.specs.declared.result.Result.{Result}
 use Rattle.std.specs.declared.result.Result.the-variants.{Ok, Err}
-use Rattle.ledger.specs.declared.counts.Progress.{Progress}
+use Rattle.ledger.specs.declared.progress.Progress.{Progress}
 use Rattle.ledger.specs.declared.transaction.TransactionState.{TransactionState}
 use Rattle.ledger.specs.declared.verdict.Verdict.{Verdict}
 use Rattle.ledger.specs.declared.verdict.Verdict.the-variants.{ReadOnly, Numbered, Clash}

@@ -6,7 +6,7 @@ use Rattle.std.specs.declared.option.Option.the-variants.{Some, None}
 use Rattle.tickets.specs.WriteSets.{Pairs}
 use Rattle.stores.specs.Model as model
 use Rattle.stores.specs.Model.{StoreModel}
-use Rattle.ledger.specs.Own.{pairs-from}
+use Rattle.errands.specs.Own.{pairs-from}
 use Rattle.law.specs.Store.{Place, Store}
 
 -- own writes, in rising order of their objects
