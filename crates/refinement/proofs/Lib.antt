@@ -1,3 +1,5 @@
 pub mod Own
 pub mod Stores
 pub mod Lawful
+pub mod Numbers
+pub mod Sets
