@@ -3,3 +3,5 @@ pub mod Stores
 pub mod Lawful
 pub mod Numbers
 pub mod Sets
+pub mod Banks
+pub mod Places
