@@ -5,3 +5,5 @@ pub mod Numbers
 pub mod Sets
 pub mod Banks
 pub mod Places
+pub mod Simulation
+pub mod Working
