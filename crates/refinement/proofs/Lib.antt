@@ -7,3 +7,4 @@ pub mod Banks
 pub mod Places
 pub mod Simulation
 pub mod Working
+pub mod Beginning

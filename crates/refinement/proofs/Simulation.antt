@@ -86,12 +86,12 @@ module _ (b : Machine) (fit : Fit b) where
   unchanged a h = record { answer = refl; world = refl; fit = fit }
 
   -- a check that both make
-  pub by-check : {A C : Type 0} (f : C → Answer) (c d : Bool) (n : ℕ) (e : Reason) (x : A) (r : steps.Result) (g : A → Came C) → c ≡ d → refusal e ≡ refused n [] → (c ≡ true → Matches r (came f (g x))) → Matches (test c n w r) (came f (look (cond d (Ok x) (Err e)) b g))
+  pub by-check : {A C : Type 0} (f : C → Answer) (c d : Bool) (n : ℕ) (e : Reason) (a : Result A Reason) (r : steps.Result) (g : A → Came C) → c ≡ d → refusal e ≡ refused n [] → (c ≡ true → Matches r (came f (look a b g))) → Matches (test c n w r) (came f (look (cond d a (Err e)) b g))
   unfolding test
-  by-check f true true n e x r g s i h = h refl
-  by-check f true false n e x r g s i h = absurd (both-ways true s refl)
-  by-check f false true n e x r g s i h = absurd (both-ways false refl s)
-  by-check f false false n e x r g s i h = λ _. record { answer = i; world = refl; fit = fit }
+  by-check f true true n e a r g s i h = h refl
+  by-check f true false n e a r g s i h = absurd (both-ways true s refl)
+  by-check f false true n e a r g s i h = absurd (both-ways false refl s)
+  by-check f false false n e a r g s i h = λ _. record { answer = i; world = refl; fit = fit }
 
   -- the check 20
   pub if-opened-is : {A : Type 0} (r : Result A Reason) → if-opened b r ≡ r
@@ -102,7 +102,7 @@ module _ (b : Machine) (fit : Fit b) where
     pub by-replica : {C : Type 0} (f : C → Answer) (k : ℕ) (r : steps.Result) (g : ℕ → Came C) → (k < length (b .stores) → Matches r (came f (g k))) → Matches (test (ltb k (length (w .bank))) 1 w r) (came f (look (replica-at b k) b g))
     by-replica f k r g h =
         subst (λ (a : Result ℕ Reason). Matches (test (ltb k (length (w .bank))) 1 w r) (came f (look a b g))) (sym (if-opened-is (cond (ltb k (told-count (b .stores))) (Ok k) (Err NoReplica))))
-        (by-check f (ltb k (length (w .bank))) (ltb k (told-count (b .stores))) 1 NoReplica k r g (ap (ltb k) same) refl
+        (by-check f (ltb k (length (w .bank))) (ltb k (told-count (b .stores))) 1 NoReplica (Ok k) r g (ap (ltb k) same) refl
         (λ e. h (omega (arith, ltb-true k (length (w .bank)) e, as-many-stores (b .stores)))))
       where
         same : length (w .bank) ≡ told-count (b .stores)
@@ -120,7 +120,7 @@ module _ (b : Machine) (fit : Fit b) where
   pub by-transaction : {C : Type 0} (f : C → Answer) (t : ℕ) (r : steps.Result) (g : Transaction → Came C) → (1 ≤ t → t ≤ length (b .txns) → Matches r (came f (g (nth-transaction (b .txns) t)))) → Matches (test (up-to (length (w .entries)) t) 2 w r) (came f (look (transaction-at b t) b g))
   by-transaction f t r g h =
       subst (λ (a : Result Transaction Reason). Matches (test (up-to (length (w .entries)) t) 2 w r) (came f (look a b g))) (sym (if-opened-is (cond (up-to (length (b .txns)) t) (Ok (nth-transaction (b .txns) t)) (Err NoTransaction))))
-      (by-check f (up-to (length (w .entries)) t) (up-to (length (b .txns)) t) 2 NoTransaction (nth-transaction (b .txns) t) r g (ap (λ n. up-to n t) as-many-entries) refl
+      (by-check f (up-to (length (w .entries)) t) (up-to (length (b .txns)) t) 2 NoTransaction (Ok (nth-transaction (b .txns) t)) r g (ap (λ n. up-to n t) as-many-entries) refl
       (λ e. let a = and-parts (ltb 0 t) (leb t (length (w .entries))) e in h (ltb-true 0 t (a .0)) (omega (arith, leb-true t (length (w .entries)) (a .1), as-many-entries))))
 
   -- the checks 2 and 29

@@ -107,7 +107,7 @@ module _ (b : Machine) (fit : Fit b) where
           subst (λ o. Matches (on-entry t w body) (came law.told o)) (sym (still-bind (taking b t Read) (λ y. bind (object-at j) (read-by b y)) b))
           (by-open b fit law.told t Read reads-open body (λ y. still (bind (object-at j) (read-by b y)) b) (λ l n was.
           subst (λ o. Matches body (came law.told o)) (sym (still-bind (object-at j) (read-by b x) b))
-          (by-check b fit law.told (ltb j 128) (ltb j 128) 3 NoObject j (read-answer (store-read (home-of w t) (place-of w t) j) w) (λ o. still (read-by b x o) b) refl refl (λ _.
+          (by-check b fit law.told (ltb j 128) (ltb j 128) 3 NoObject (Ok j) (read-answer (store-read (home-of w t) (place-of w t) j) w) (λ o. still (read-by b x o) b) refl refl (λ _.
           rw (same, asked-is (b .stores) (x .home) (λ a. model.read-answer a (x .place) j) (home-within t l n)) (go (model.read-answer m (x .place) j))))))
         where
           body : steps.Result
@@ -136,9 +136,9 @@ module _ (b : Machine) (fit : Fit b) where
           subst (λ o. Matches (on-entry t w body) (came quiet o)) (sym (look-bind (taking b t Write) (λ y. bind (object-at j) (λ _. bind (value-at j v) (λ _. Ok y))) b ends))
           (by-open b fit quiet t Write writes-open body (λ y. look (bind (object-at j) (λ _. bind (value-at j v) (λ _. Ok y))) b ends) (λ l n was.
           subst (λ o. Matches body (came quiet o)) (sym (look-bind (object-at j) (λ _. bind (value-at j v) (λ _. Ok x)) b ends))
-          (by-check b fit quiet (ltb j 128) (ltb j 128) 3 NoObject j _ (λ _. look (bind (value-at j v) (λ _. Ok x)) b ends) refl refl (λ _.
+          (by-check b fit quiet (ltb j 128) (ltb j 128) 3 NoObject (Ok j) _ (λ _. look (bind (value-at j v) (λ _. Ok x)) b ends) refl refl (λ _.
           subst (λ o. Matches (test (leb v (top j)) 5 w stored) (came quiet o)) (sym (look-bind (value-at j v) (λ _. Ok x) b ends))
-          (by-check b fit quiet (leb v (top j)) (leb v (top j)) 5 AboveTop v stored (λ _. ends x) refl refl (λ _.
+          (by-check b fit quiet (leb v (top j)) (leb v (top j)) 5 AboveTop (Ok v) stored (λ _. ends x) refl refl (λ _.
           rw (same, asked-is (b .stores) (x .home) (λ a. model.write-answer a (x .place) j v) (home-within t l n)) (go (model.write-place m (x .place) j v) refl)))))))
         where
           ends : Transaction → Came (Unit {0})
