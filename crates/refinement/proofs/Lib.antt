@@ -8,3 +8,4 @@ pub mod Places
 pub mod Simulation
 pub mod Working
 pub mod Beginning
+pub mod Committing

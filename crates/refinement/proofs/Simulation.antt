@@ -20,6 +20,7 @@ use Rattle.ledger.specs.declared.transaction.TransactionState.{TransactionState
 use Rattle.ledger.specs.declared.transaction.TransactionState.the-variants.{Open, Pending, Committed, Aborted, GivenUp}
 use Rattle.ledger.specs.Words.{up-to}
 use Rattle.ledger.specs.Transactions.{takes, nth-transaction, no-transaction}
+use Rattle.errands.specs.Outcomes as outcomes
 use Rattle.errands.specs.Outcomes.{look, step}
 use Rattle.errands.specs.Replay.{at}
 use Rattle.machine.specs.declared.reason.Reason.{Reason}
@@ -92,6 +93,13 @@ module _ (b : Machine) (fit : Fit b) where
   by-check f true false n e a r g s i h = absurd (both-ways true s refl)
   by-check f false true n e a r g s i h = absurd (both-ways false refl s)
   by-check f false false n e a r g s i h = λ _. record { answer = i; world = refl; fit = fit }
+
+  pub by-choice : {C : Type 0} (f : C → Answer) (c d : Bool) (n : ℕ) (e : Reason) (o : Came C) (r : steps.Result) → c ≡ d → refusal e ≡ refused n [] → Matches r (came f o) → Matches (test c n w r) (came f (cond d o (outcomes.refused e b)))
+  unfolding test
+  by-choice f true true n e o r s i h = h
+  by-choice f true false n e o r s i h = absurd (both-ways true s refl)
+  by-choice f false true n e o r s i h = absurd (both-ways false refl s)
+  by-choice f false false n e o r s i h = λ _. record { answer = i; world = refl; fit = fit }
 
   -- the check 20
   pub if-opened-is : {A : Type 0} (r : Result A Reason) → if-opened b r ≡ r
