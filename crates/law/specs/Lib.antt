@@ -17,3 +17,4 @@ pub mod Coupled
 pub mod Sound
 pub mod Promise
 pub mod Corollaries
+pub mod Refutations

@@ -7,15 +7,14 @@ use lib.ListN.{length}
 use Rattle.calls.specs.declared.call.Call.{Call}
 use Rattle.tickets.specs.Boards.{Board}
 use Rattle.law.specs.History.{Answer, accepted, is-fault, Event, History, run-of}
-use Rattle.law.specs.History.Answer.{done}
 use Rattle.law.specs.History.Event.{event}
 use Rattle.law.specs.Plain.{Plain, just-opened}
 use Rattle.law.specs.Steps.{run}
 use Rattle.law.specs.Law.{Law}
 use Rattle.law.specs.Store.{Store}
-use Rattle.law.specs.Opening.{LawfulBank, start-of, opening}
+use Rattle.law.specs.Opening.{LawfulBank, start-of, opening, PlainBoard}
 use Rattle.law.specs.World.{board-of, Picks}
-use Rattle.law.specs.Sound.{Middle, bank-of, new-world, middle-open, middle-step}
+use Rattle.law.specs.Sound.{Middle, bank-of, plain-of, new-world, middle-open, middle-step, Sound}
 
 -- no answer carries a store's fault
 abbrev pub NoFault : History → Type 0
@@ -30,10 +29,16 @@ pub record Served (bank : List Store) (queue : List Call) (h : History) (after :
   pub law : Law (start-of bank) (length bank) h (map board-of after)
   pub no-fault : NoFault h
 
+-- so far: of a board of K replicas just opened, the calls that were made, their history, and what the middleware came to
+pub record Ran (start : Board) (K : ℕ) (calls : List Call) (h : History) (m : Middle) : Type 0 where
+  pub answers : h ≡ run calls [] (just-opened start K) .0
+  pub plain : plain-of m ≡ PlainBoard.opened (run calls [] (just-opened start K) .1)
+  pub sound : Sound m
+
 -- a run's answer to the opening, its history, and the bank that comes back; where the opening is refused, no call is run
 pub record Promised (bank : List Store) (queue : List Call) (a : Answer) (h : History) (after : List Store) : Type 0 where
   pub opening : a ≡ opening bank
-  pub served : a ≡ done → Served bank queue h after
+  pub served : accepted a ≡ true → Served bank queue h after
   pub refused : accepted a ≡ false → (h ≡ []) × (after ≡ bank)
 
 -- a whole run of the middleware: it is made, opened, and given the queue

@@ -14,11 +14,11 @@ use Rattle.law.specs.Plain.{Transaction, Numbered, Plain, Outcome, transaction
 use Rattle.law.specs.Plain.TransactionState.{live, pending, committed, aborted, given-up}
 
 -- the transaction that begins at k: its snapshot is the board there
-abbrev pub begun : ℕ → Plain → Transaction
-begun k p = record { home = k; s = count (p .applied k) (length (p .sets)); state = live (board p k) [] }
+abbrev pub new-transaction : ℕ → Plain → Transaction
+new-transaction k p = record { home = k; s = count (p .applied k) (length (p .sets)); state = live (board p k) [] }
 
 abbrev pub with-begun : ℕ → Plain → Plain
-with-begun k p = record { start = p .start; sets = p .sets; boards = p .boards; applied = p .applied; transactions = p .transactions ++ begun k p ∷ [] }
+with-begun k p = record { start = p .start; sets = p .sets; boards = p .boards; applied = p .applied; transactions = p .transactions ++ new-transaction k p ∷ [] }
 
 -- begin at k: 1, 26, 27, 28; the next transaction number
 abbrev pub begin-at : ℕ → Plain → Outcome
