@@ -70,25 +70,34 @@ marked-set k x = record { home = x .home; s = x .s; transaction = x .transaction
 abbrev pub clash : Pairs → Pairs → Bool
 clash earlier later = shares earlier later
 
+abbrev pub clashes : Pairs → SetModel → Bool
+clashes u x = clash (x .pairs) u
+
 -- number n is above s and clashes with u
 abbrev pub clashes-above : List SetModel → ℕ → Pairs → ℕ → Bool
-clashes-above us s u n = ltb s n && clash (nth-set us n .pairs) u
+clashes-above us s u n = ltb s n && clashes u (nth-set us n)
 
 -- the lowest number above s that clashes with u
 unfoldable pub lowest-clash : List SetModel → ℕ → Pairs → Option ℕ
 lowest-clash us s u = some-number (lowest (clashes-above us s u) (length us))
 
--- number n is not applied at k
-abbrev pub unapplied-at : List SetModel → ℕ → ℕ → Bool
-unapplied-at us k n = not (applied-at us k n)
+-- not applied at k
+abbrev pub is-unapplied : ℕ → SetModel → Bool
+is-unapplied k x = not (is-applied k x)
 
--- number n is not applied at k and clashes with u
-abbrev pub holds-back : List SetModel → ℕ → Pairs → ℕ → Bool
-holds-back us k u n = unapplied-at us k n && clash (nth-set us n .pairs) u
+abbrev pub unapplied-at : List SetModel → ℕ → ℕ → Bool
+unapplied-at us k n = is-unapplied k (nth-set us n)
+
+-- not applied at k, and clashes with u
+abbrev pub holds-back : ℕ → Pairs → SetModel → Bool
+holds-back k u x = is-unapplied k x && clashes u x
+
+abbrev pub holds-back-at : List SetModel → ℕ → Pairs → ℕ → Bool
+holds-back-at us k u n = holds-back k u (nth-set us n)
 
 -- the lowest of the numbers 1 to last that holds u back at k
 unfoldable pub lowest-holding : List SetModel → ℕ → ℕ → Pairs → Option ℕ
-lowest-holding us k last u = some-number (lowest (holds-back us k u) last)
+lowest-holding us k last u = some-number (lowest (holds-back-at us k u) last)
 
 -- the lowest number that is not applied at k
 unfoldable pub lowest-unapplied : List SetModel → ℕ → Option ℕ

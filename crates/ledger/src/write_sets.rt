@@ -3,6 +3,9 @@ ghost use Prim.Native.Nat.{_≤_};
 ghost use Rattle.std.specs.Of.Vec.{vec-len, vec-cap};
 use crate::numbered::Numbered;
 
+mod lowest;
+mod methods;
+mod scans;
 
 pub const WRITE_SETS: usize = 256;
 
