@@ -1,0 +1,11 @@
+pub mod Own
+pub mod Stores
+pub mod Lawful
+pub mod Numbers
+pub mod Sets
+pub mod Banks
+pub mod Places
+pub mod Simulation
+pub mod Working
+pub mod Beginning
+pub mod Committing

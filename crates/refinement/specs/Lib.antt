@@ -1,0 +1,5 @@
+pub mod Stores
+pub mod Worlds
+pub mod Answers
+pub mod Steps
+pub mod Sound
