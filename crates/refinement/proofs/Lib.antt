@@ -9,3 +9,4 @@ pub mod Simulation
 pub mod Working
 pub mod Beginning
 pub mod Committing
+pub mod Replaying
