@@ -10,3 +10,4 @@ pub mod Working
 pub mod Beginning
 pub mod Committing
 pub mod Replaying
+pub mod Playing

@@ -83,10 +83,13 @@ module _ (k : ℕ) where
         (one-call ms ok l (store-write (law-store (banks.store-at ms k)) p j v) (λ m. model.write-answer m p j v) (λ m. model.write-after m p j v) (same-write (banks.store-at ms k) p j v) (λ m h. write-lawful m h p j v))
         (λ ns ns-ok ns-l. writes-all u ns ns-ok ns-l)
 
+    pub commits : (ms : List StoreModel) → LawfulStores ms → k < length ms → (σ : Store) → store-commit (law-store (banks.store-at ms k)) p ≡ fine σ → Through ms k σ (commit-at k p ms)
+    commits ms ok l = one-call ms ok l (store-commit (law-store (banks.store-at ms k)) p) (λ m. model.commit-answer m p) (λ m. model.commit-after m p) (same-commit (banks.store-at ms k) p (ok k l .whole) (ok k l .own p)) (λ m h. commit-lawful m h p)
+
     -- a commit that goes through leaves nothing to free
     ends : (ms : List StoreModel) → LawfulStores ms → k < length ms → Same ms k (store-commit (law-store (banks.store-at ms k)) p) (end-at k p ms)
     ends ms ok l σ e =
-        let r = one-call ms ok l (store-commit (law-store (banks.store-at ms k)) p) (λ m. model.commit-answer m p) (λ m. model.commit-after m p) (same-commit (banks.store-at ms k) p (ok k l .whole) (ok k l .own p)) (λ m h. commit-lawful m h p) σ e in
+        let r = commits ms ok l σ e in
         subst (λ (a : Result (Unit {0}) BankFault). Through ms k σ (end-with k p a (commit-at k p ms .after))) (sym (r .answer)) (record { answer = refl; bank = r .bank; lawful = r .lawful })
 
     fills : (u : Pairs) (ms : List StoreModel) → LawfulStores ms → k < length ms → Same ms k (next (store-write-all u p (law-store (banks.store-at ms k))) (λ s. store-commit s p)) (fill k p u ms)
