@@ -97,7 +97,7 @@ module _ (b : Machine) (fit : Fit b) (q : Coupled (world-of b)) (t : ℕ) where
       registered : world-of (told (numbered b t x u) t (Commit (Numbered (length (b .sets) + 1)))) ≡ with-number w t u
       registered =
           let sets : map numbered-of (b .sets ++ new ∷ []) ≡ w .sets ++ record { who = t; home = entry w t .home; s = entry w t .s; pairs = u } ∷ [] = map-push numbered-of (b .sets) new ∙ ap (λ (y : Entry). w .sets ++ record { who = t; home = y .home; s = y .s; pairs = u } ∷ []) (sym (entry-is b fit t)) in
-          let entries = entries-moved b fit t (Commit (Numbered (length (b .sets) + 1))) (Pending (length (b .sets) + 1)) was refl ∙ ap (λ n. set (w .entries) (t - 1) (in-phase (Phase.pending n) (entry w t))) next-number in
+          let entries = entries-moved b fit t (Commit (Numbered (length (b .sets) + 1))) Open (Pending (length (b .sets) + 1)) was refl ∙ ap (λ n. set (w .entries) (t - 1) (in-phase (Phase.pending n) (entry w t))) next-number in
           λ i. record { start = w .start; sets = sets i; applied = more-keeps-applied (b .sets) new refl i; entries = entries i; bank = w .bank }
 
       registers : Matches (test (ltb (length (w .sets)) 256) 31 w (law.told (suc (length (w .sets))), with-number w t u)) (came verdict-listed (register b t x u))

@@ -9,3 +9,5 @@ pub mod Simulation
 pub mod Working
 pub mod Beginning
 pub mod Committing
+pub mod Replaying
+pub mod Playing

@@ -74,21 +74,21 @@ module _ (b : Machine) (fit : Fit b) where
   pub place-is : (t : ℕ) → place-of w t ≡ nth-transaction (b .txns) t .place
   place-is t = ap (λ (x : Entry). x .place) (entry-is b fit t)
 
-  -- an open transaction t takes an event that leads to the state s
-  pub entries-moved : (t : ℕ) (e : Event) (s : TransactionState) → nth-transaction (b .txns) t .state ≡ Open → next Open e ≡ Some s → map entry-of (set (b .txns) (t - 1) (moved (nth-transaction (b .txns) t) e)) ≡ set (w .entries) (t - 1) (in-phase (phase-of s) (entry w t))
-  entries-moved t e s was to =
+  -- a transaction t takes an event, which leads from its state to the state s
+  pub entries-moved : (t : ℕ) (e : Event) (from s : TransactionState) → nth-transaction (b .txns) t .state ≡ from → next from e ≡ Some s → map entry-of (set (b .txns) (t - 1) (moved (nth-transaction (b .txns) t) e)) ≡ set (w .entries) (t - 1) (in-phase (phase-of s) (entry w t))
+  entries-moved t e from s was to =
       let x = nth-transaction (b .txns) t in
-      let state : valueOr (next (x .state) e) (x .state) ≡ s = ap (λ q. valueOr (next q e) q) was ∙ ap (λ o. valueOr o Open) to in
+      let state : valueOr (next (x .state) e) (x .state) ≡ s = ap (λ q. valueOr (next q e) q) was ∙ ap (λ o. valueOr o from) to in
       let one : entry-of (moved x e) ≡ in-phase (phase-of s) (entry w t) = ap (λ q. record { home = x .home; s = x .s; place = x .place; phase = phase-of q }) state ∙ ap (in-phase (phase-of s)) (sym (entry-is b fit t)) in
       map-set entry-of (b .txns) (t - 1) (moved x e) ∙ ap (set (w .entries) (t - 1)) one
 
-  -- and its home's store comes to another
+  -- an open one's, with its home's store, which comes to another
   pub settled : (t : ℕ) (e : Event) (s : TransactionState) (g : StoreModel → StoreModel) → nth-transaction (b .txns) t .state ≡ Open → next Open e ≡ Some s → world-of (told (with-stores b (changed (b .stores) (nth-transaction (b .txns) t .home) g)) t e) ≡ with-entry w t (phase-of s) (law-store (g (banks.store-at (b .stores) (nth-transaction (b .txns) t .home))))
   settled t e s g was to =
       let x = nth-transaction (b .txns) t in
       let home : x .home ≡ entry w t .home = ap (λ (y : Entry). y .home) (sym (entry-is b fit t)) in
       let bank : law-bank (changed (b .stores) (x .home) g) ≡ set (w .bank) (entry w t .home) (law-store (g (banks.store-at (b .stores) (x .home)))) = bank-changed (b .stores) (x .home) g ∙ ap (λ k. set (w .bank) k (law-store (g (banks.store-at (b .stores) (x .home))))) home in
-      λ i. record { start = b .start; sets = w .sets; applied = w .applied; entries = entries-moved t e s was to i; bank = bank i }
+      λ i. record { start = b .start; sets = w .sets; applied = w .applied; entries = entries-moved t e Open s was to i; bank = bank i }
 
   module _ (q : Coupled w) where
     -- a transaction is at home at one of the replicas

@@ -1,0 +1,137 @@
+-- A numbered write set played at a replica by the machine, beside the law's middleware.
+use mathlib.Core.Path.{_≡_, refl, sym, ap, subst, _∙_}
+use mathlib.Core.Logic.{_⊎_, inl, inr}
+use mathlib.Core.Bool.{Bool, true, false, cond}
+use mathlib.Core.List.{List, [], _∷_, map}
+use Prim.Native.Nat.{ℕ, _-_, _≤_, _<_}
+use native.Mathlib.Omega.{arith}
+use lib.Dec.{eqb}
+use lib.ListN.{length, getD, set, length-map, List·getD-map}
+use Rattle.std.specs.declared.option.Option.{Option}
+use Rattle.std.specs.declared.result.Result.the-variants.{Ok, Err}
+use Rattle.std.proofs.shelf.Tests.{cases-eq, eq-eqb, ne-eqb, eqb-true}
+use Rattle.stores.specs.Model.{StoreModel}
+use Rattle.banks.specs.Model as banks
+use Rattle.ledger.specs.declared.transaction.Event.the-variants.{Applied}
+use Rattle.ledger.specs.declared.transaction.Transaction.{Transaction}
+use Rattle.ledger.specs.declared.transaction.TransactionState.{TransactionState}
+use Rattle.ledger.specs.declared.transaction.TransactionState.the-variants.{Open, Pending, Committed, Aborted, GivenUp}
+use Rattle.ledger.specs.Transactions.{nth-transaction}
+use Rattle.ledger.specs.Sets.{SetModel, nth-set}
+use Rattle.errands.specs.Places.{vacant}
+use Rattle.errands.specs.Replay.{commit-at, replay}
+use Rattle.machine.specs.Machine.{Machine, Came, with-stores, told}
+use Rattle.machine.specs.Applying.{marked, play-home, play-away, play-set, playing}
+use Rattle.law.specs.Plain as plain
+use Rattle.law.specs.Plain.{Numbered, numbered, pairs}
+use Rattle.law.specs.Store.{Place, Store, Done, place, store-commit, store-play}
+use Rattle.law.specs.Store.Done.{fine, failed}
+use Rattle.law.specs.Opening.{store-at}
+use Rattle.law.specs.World.{Phase, Entry, World, no-entry, entry, place-of, state-of, transaction-of, world-plain, in-phase, picked, with-applied}
+use Rattle.law.specs.WorldSteps.{Went, and-go, world-play}
+use Rattle.law.specs.WorldSteps.Went.{went, stuck}
+use Rattle.law.specs.Coupled.{Coupled}
+use Rattle.refinement.specs.Stores.{law-store, law-bank}
+use Rattle.refinement.specs.Worlds.{phase-of, entry-of, numbered-of, applied-of, world-of}
+use Rattle.refinement.specs.Sound.{LawfulStores}
+use Rattle.refinement.proofs.Sets.{as-many-sets, set-is, mark-keeps-sets, mark-is, mark-keeps-eight}
+use Rattle.refinement.proofs.Banks.{store-is}
+use Rattle.refinement.proofs.Places.{first-of-sixteen}
+use Rattle.refinement.proofs.Beginning.{same-place}
+use Rattle.refinement.proofs.Replaying.{Through, commits, replays}
+use Rattle.refinement.proofs.Simulation.{Fit, entry-is}
+use Rattle.refinement.proofs.Working.{entries-moved}
+
+-- an application that went through: nothing is refused, and the machine is the world v
+pub record Played (v : World) (o : Came (Unit {0})) : Type 0 where
+  pub answer : o .answer ≡ Ok tt
+  pub world : world-of (o .after) ≡ v
+  pub fit : Fit (o .after)
+
+-- what went through
+gone : (d : Done) (w : World) (k : ℕ) (f : Store → World) (v : World) → and-go d w k f ≡ went v → (σ : Store) × (d ≡ fine σ) × (f σ ≡ v)
+gone (fine σ) w k f v e = let z : f σ ≡ v = cc in (σ, refl, z)
+gone (failed n σ) w k f v e = absurd (let z : _≡_ {A = ℕ} 0 1 = cc in omega arith)
+
+eqb-either : (i k : ℕ) → eqb i k ≡ eqb k i
+eqb-either i k = go (cases-eq i k)
+  where
+    go : (i ≡ k) ⊎ (i ≡ k → ⊥) → eqb i k ≡ eqb k i
+    go (inl e) = rw e
+    go (inr e) = ne-eqb i k e ∙ sym (ne-eqb k i (λ d. e (sym d)))
+
+-- a pending state of the plain board is one of the machine
+is-pending : (q : TransactionState) (o : Option Place) (n : ℕ) → state-of (phase-of q) o ≡ plain.TransactionState.pending n → q ≡ Pending n
+is-pending Open o n e = absurd (let z : _≡_ {A = ℕ} 0 1 = cc in omega arith)
+is-pending (Pending i) o n e = let z : i ≡ n = cc in ap Pending z
+is-pending Committed o n e = absurd (let z : _≡_ {A = ℕ} 0 1 = cc in omega arith)
+is-pending Aborted o n e = absurd (let z : _≡_ {A = ℕ} 0 1 = cc in omega arith)
+is-pending GivenUp o n e = absurd (let z : _≡_ {A = ℕ} 0 1 = cc in omega arith)
+
+module _ (b : Machine) (fit : Fit b) (q : Coupled (world-of b)) (eight : length (b .stores) ≤ 8) (k n : ℕ) (l : k < length (b .stores)) (least : 1 ≤ n) (most : n ≤ length (b .sets)) (new : applied-of (b .sets) k n ≡ false) where
+  abbrev w : World
+  w = world-of b
+
+  abbrev x : SetModel
+  x = nth-set (b .sets) n
+
+  abbrev y : Transaction
+  y = nth-transaction (b .txns) (x .transaction)
+
+  x-is : numbered (w .sets) n ≡ numbered-of x
+  x-is = set-is (b .sets) n
+
+  -- at home its transaction is pending
+  waits : x .home ≡ k → y .state ≡ Pending n
+  waits h =
+      let f = q .orderly .sets n least (omega (arith, as-many-sets (b .sets))) in
+      let home : numbered (w .sets) n .home ≡ k = ap (λ (z : Numbered). z .home) x-is ∙ h in
+      let p = f .waits (ap (λ i. w .applied i n) home ∙ new) in
+      let who : numbered (w .sets) n .who ≡ x .transaction = ap (λ (z : Numbered). z .who) x-is in
+      let t-is : plain.transaction (world-plain w) (x .transaction) ≡ transaction-of (w .bank) (entry w (x .transaction)) = List·getD-map (transaction-of (w .bank)) (w .entries) (x .transaction - 1) no-entry in
+      let is : transaction-of (w .bank) (entry-of y) ≡ record { home = numbered (w .sets) n .home; s = numbered (w .sets) n .s; state = plain.TransactionState.pending n } = ap (transaction-of (w .bank)) (sym (entry-is b fit (x .transaction))) ∙ (sym t-is ∙ (ap (plain.transaction (world-plain w)) (sym who) ∙ p .is)) in
+      is-pending (y .state) (place (store-at (w .bank) (y .home)) (y .place)) n (ap (λ (z : plain.Transaction). z .state) is)
+
+  abbrev after : List StoreModel → Machine
+  after ms = marked (with-stores b ms) k n
+
+  fit-after : (ms : List StoreModel) → LawfulStores ms → Fit (after ms)
+  fit-after ms ok = record { opened = fit .opened; stores = ok; marks = mark-keeps-eight (b .sets) k n least most (fit .marks) (omega arith) }
+
+  -- the bank comes to another store of k, the entries to T, and n is marked
+  came-to : (ms : List StoreModel) (T : List Transaction) (E : List Entry) (σ : Store) → law-bank ms ≡ set (w .bank) k σ → map entry-of T ≡ E → world-of (record { opened = b .opened; start = b .start; stores = ms; txns = T; sets = after ms .sets }) ≡ with-applied w k n E σ
+  came-to ms T E σ bank entries = λ i. record { start = w .start; sets = mark-keeps-sets (b .sets) k n least most i; applied = mark-is (b .sets) k n least most (fit .marks) (omega arith) i; entries = entries i; bank = bank i }
+
+  plays-home : x .home ≡ k → (σ : Store) → store-commit (store-at (w .bank) k) (place-of w (x .transaction)) ≡ fine σ → Played (with-applied w k n (set (w .entries) (x .transaction - 1) (in-phase Phase.committed (entry w (x .transaction)))) σ) (play-home b k n (x .transaction))
+  plays-home h σ e =
+      let p : place-of w (x .transaction) ≡ y .place = ap (λ (z : Entry). z .place) (entry-is b fit (x .transaction)) in
+      let r = commits k (y .place) (b .stores) (fit .stores) l σ ((λ i. store-commit (sym (store-is (b .stores) k) i) (sym p i)) ∙ e) in
+      rw (r .answer) (record {
+        answer = refl;
+        world = came-to (commit-at k (y .place) (b .stores) .after) (told b (x .transaction) Applied .txns) (set (w .entries) (x .transaction - 1) (in-phase Phase.committed (entry w (x .transaction)))) σ (r .bank) (entries-moved b fit (x .transaction) Applied (Pending n) Committed (waits h) refl);
+        fit = record { opened = fit .opened; stores = r .lawful; marks = fit-after (commit-at k (y .place) (b .stores) .after) (r .lawful) .marks };
+      })
+
+  plays-away : (σ : Store) → store-play (x .pairs) (picked first-of-sixteen (store-at (w .bank) k)) (store-at (w .bank) k) ≡ fine σ → Played (with-applied w k n (w .entries) σ) (play-away b k n (x .pairs))
+  plays-away σ e =
+      let r = replays k (vacant (b .stores) k) (x .pairs) (b .stores) (fit .stores) l σ ((λ i. store-play (x .pairs) (sym (same-place b fit eight k l) i) (sym (store-is (b .stores) k) i)) ∙ e) in
+      rw (r .answer) (record {
+        answer = refl;
+        world = came-to (replay k (vacant (b .stores) k) (x .pairs) (b .stores) .after) (b .txns) (w .entries) σ (r .bank) refl;
+        fit = fit-after (replay k (vacant (b .stores) k) (x .pairs) (b .stores) .after) (r .lawful);
+      })
+
+  pub plays : (v : World) → world-play first-of-sixteen k n w ≡ went v → Played v (playing b k n)
+  unfolding playing
+  plays v = subst (λ (z : Numbered). (e : as-law z ≡ went v) → Played v (play-set b k n x)) (sym x-is) (go (eqb (x .home) k) refl)
+    where
+      as-law : Numbered → Went
+      as-law z = cond (eqb k (z .home)) (and-go (store-commit (store-at (w .bank) k) (place-of w (z .who))) w k (with-applied w k n (set (w .entries) (z .who - 1) (in-phase Phase.committed (entry w (z .who)))))) (and-go (store-play (z .pairs) (picked first-of-sixteen (store-at (w .bank) k)) (store-at (w .bank) k)) w k (with-applied w k n (w .entries)))
+
+      go : (c : Bool) → eqb (x .home) k ≡ c → as-law (numbered-of x) ≡ went v → Played v (cond (eqb (x .home) k) (play-home b k n (x .transaction)) (play-away b k n (x .pairs)))
+      go true d e =
+          let r = gone (store-commit (store-at (w .bank) k) (place-of w (x .transaction))) w k (with-applied w k n (set (w .entries) (x .transaction - 1) (in-phase Phase.committed (entry w (x .transaction))))) v (rw (sym (eqb-either (x .home) k) ∙ d) at e) in
+          rw d (subst (λ u. Played u (play-home b k n (x .transaction))) (r .2) (plays-home (eqb-true (x .home) k d) (r .0) (r .1)))
+      go false d e =
+          let r = gone (store-play (x .pairs) (picked first-of-sixteen (store-at (w .bank) k)) (store-at (w .bank) k)) w k (with-applied w k n (w .entries)) v (rw (sym (eqb-either (x .home) k) ∙ d) at e) in
+          rw d (subst (λ u. Played u (play-away b k n (x .pairs))) (r .2) (plays-away (r .0) (r .1)))
