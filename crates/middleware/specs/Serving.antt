@@ -1,0 +1,22 @@
+-- What a call of the middleware promises.
+use mathlib.Core.Path.{_≡_}
+use mathlib.Core.Bool.{false}
+use Rattle.calls.specs.declared.call.Call.{Call}
+use Rattle.law.specs.History.{Answer, accepted}
+use Rattle.law.specs.Opening.{board-step, board-open}
+use Rattle.machine.specs.Machine.{Machine}
+use Rattle.refinement.specs.Stores.{law-bank}
+use Rattle.refinement.specs.Worlds.{plain-of}
+use Rattle.refinement.specs.Sound.{Sound, Follows}
+
+-- over a sound middleware: the plain board's answer, the plain board after it, and sound again
+abbrev pub Serves : Call → Machine → Answer → Machine → Type 0
+Serves c before a after = Sound before → Follows (board-step c (plain-of before)) a after
+
+-- a call that changes nothing: the plain board's answer
+abbrev pub Tells : Call → Machine → Answer → Type 0
+Tells c m a = Sound m → a ≡ board-step c (plain-of m) .0
+
+-- open, over the stores of the bank
+abbrev pub Opens : Machine → Answer → Machine → Type 0
+Opens before a after = Sound before → Follows (board-open (law-bank (before .stores)) (plain-of before)) a after
