@@ -11,3 +11,5 @@ pub mod Beginning
 pub mod Committing
 pub mod Replaying
 pub mod Playing
+pub mod Applying
+pub mod Draining
