@@ -13,3 +13,4 @@ pub mod Replaying
 pub mod Playing
 pub mod Applying
 pub mod Draining
+pub mod Questions
