@@ -14,3 +14,4 @@ pub mod Playing
 pub mod Applying
 pub mod Draining
 pub mod Questions
+pub mod Opening
