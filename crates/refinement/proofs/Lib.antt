@@ -15,3 +15,4 @@ pub mod Applying
 pub mod Draining
 pub mod Questions
 pub mod Opening
+pub mod Calls

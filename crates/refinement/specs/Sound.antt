@@ -22,6 +22,7 @@ LawfulStores ms = (k : ℕ) → k < length ms → Lawful (store-at ms k)
 abbrev pub EightMarks : List SetModel → Type 0
 EightMarks us = (i : ℕ) → i < length us → length (getD us i no-set .applied) ≡ 8
 
+-- what a machine keeps from its making on: lawful stores, eight marks, and what the law's middleware keeps
 pub record Sound (b : Machine) : Type 0 where
   pub stores : LawfulStores (b .stores)
   pub marks : EightMarks (b .sets)
