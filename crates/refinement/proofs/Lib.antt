@@ -16,3 +16,5 @@ pub mod Draining
 pub mod Questions
 pub mod Opening
 pub mod Calls
+pub mod Begun
+pub mod Queues
