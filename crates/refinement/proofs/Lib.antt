@@ -11,3 +11,10 @@ pub mod Beginning
 pub mod Committing
 pub mod Replaying
 pub mod Playing
+pub mod Applying
+pub mod Draining
+pub mod Questions
+pub mod Opening
+pub mod Calls
+pub mod Begun
+pub mod Queues

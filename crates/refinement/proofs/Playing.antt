@@ -49,7 +49,7 @@ pub record Played (v : World) (o : Came (Unit {0})) : Type 0 where
   pub fit : Fit (o .after)
 
 -- what went through
-gone : (d : Done) (w : World) (k : ℕ) (f : Store → World) (v : World) → and-go d w k f ≡ went v → (σ : Store) × (d ≡ fine σ) × (f σ ≡ v)
+pub gone : (d : Done) (w : World) (k : ℕ) (f : Store → World) (v : World) → and-go d w k f ≡ went v → (σ : Store) × (d ≡ fine σ) × (f σ ≡ v)
 gone (fine σ) w k f v e = let z : f σ ≡ v = cc in (σ, refl, z)
 gone (failed n σ) w k f v e = absurd (let z : _≡_ {A = ℕ} 0 1 = cc in omega arith)
 

@@ -3,3 +3,5 @@ pub mod Worlds
 pub mod Answers
 pub mod Steps
 pub mod Sound
+pub mod Places
+pub mod Promise

@@ -1,6 +1,7 @@
 -- What a machine keeps from its making on, and what its calls promise.
 use mathlib.Core.Path.{_≡_}
-use mathlib.Core.List.{List}
+use mathlib.Core.Bool.{false}
+use mathlib.Core.List.{List, []}
 use Prim.Native.Nat.{ℕ, _<_}
 use lib.ListN.{length, getD}
 use Rattle.calls.specs.declared.call.Call.{Call}
@@ -22,6 +23,7 @@ LawfulStores ms = (k : ℕ) → k < length ms → Lawful (store-at ms k)
 abbrev pub EightMarks : List SetModel → Type 0
 EightMarks us = (i : ℕ) → i < length us → length (getD us i no-set .applied) ≡ 8
 
+-- what a machine keeps from its making on: lawful stores, eight marks, and what the law's middleware keeps
 pub record Sound (b : Machine) : Type 0 where
   pub stores : LawfulStores (b .stores)
   pub marks : EightMarks (b .sets)
@@ -32,6 +34,16 @@ pub record Follows (o : Answer × PlainBoard) (a : Answer) (b : Machine) : Type 
   pub answer : a ≡ o .0
   pub after : plain-of b ≡ o .1
   pub sound : Sound b
+
+-- a machine that was just made: not opened, nothing begun and nothing numbered
+pub record Fresh (b : Machine) : Type 0 where
+  pub unopened : b .opened ≡ false
+  pub transactions : b .txns ≡ []
+  pub write-sets : b .sets ≡ []
+
+-- over lawful stores it is sound
+abbrev pub EveryMaking : Type 0
+EveryMaking = (b : Machine) → Fresh b → LawfulStores (b .stores) → Sound b
 
 -- opening a sound machine: the plain board's answer, the plain board after it, sound again
 abbrev pub EveryOpening : Type 0

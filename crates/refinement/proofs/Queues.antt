@@ -1,0 +1,1 @@
+-- Whole runs of a machine: made, opened, and given a queue.

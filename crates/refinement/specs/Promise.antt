@@ -1,0 +1,33 @@
+-- What is promised of a run that makes a machine over a bank, opens it, and gives it a queue of any length.
+use mathlib.Core.Path.{_≡_}
+use mathlib.Core.Bool.{Bool, true, false}
+use mathlib.Core.List.{List, [], map}
+use Prim.Native.Nat.{ℕ}
+use Rattle.calls.specs.declared.call.Call.{Call}
+use Rattle.tickets.specs.Boards.{Board}
+use Rattle.stores.specs.Model.{StoreModel}
+use Rattle.machine.specs.Machine.{Machine}
+use Rattle.law.specs.History.{accepted, History, run-of}
+use Rattle.law.specs.World.{board-of}
+use Rattle.law.specs.Promise.{Promised}
+use Rattle.refinement.specs.Stores.{law-bank}
+use Rattle.refinement.specs.Steps.{machine-open, machine-step}
+use Rattle.refinement.specs.Sound.{LawfulStores, Fresh}
+
+-- the calls one after the other; where the opening is refused, none is made
+abbrev pub run-from : List Call → Bool → Machine → History × Machine
+run-from queue true b = run-of machine-step queue [] b
+run-from queue false b = ([], b)
+
+abbrev pub whole-run : Machine → List Call → History × Machine
+whole-run b queue = run-from queue (accepted (machine-open b .0)) (machine-open b .1)
+
+-- every machine just made, over any lawful stores, and every queue
+abbrev pub EveryQueue : Type 0
+EveryQueue =
+    (b : Machine) → Fresh b → LawfulStores (b .stores) → (queue : List Call) →
+    Promised (law-bank (b .stores)) queue (machine-open b .0) (whole-run b queue .0) (law-bank (whole-run b queue .1 .stores))
+
+-- the copies of which the law speaks are the stores' own boards
+abbrev pub OwnBoards : Type 0
+OwnBoards = (ms : List StoreModel) → map board-of (law-bank ms) ≡ map (λ m. m .board) ms
