@@ -1,13 +1,16 @@
 -- What a call of the middleware promises.
 use mathlib.Core.Path.{_≡_}
-use mathlib.Core.Bool.{false}
+use mathlib.Core.List.{List, []}
+use Prim.Native.Nat.{ℕ}
+use Rattle.tickets.specs.Boards.{Board}
 use Rattle.calls.specs.declared.call.Call.{Call}
-use Rattle.law.specs.History.{Answer, accepted}
+use Rattle.law.specs.History.{Answer, History}
 use Rattle.law.specs.Opening.{board-step, board-open}
 use Rattle.machine.specs.Machine.{Machine}
 use Rattle.refinement.specs.Stores.{law-bank}
 use Rattle.refinement.specs.Worlds.{plain-of}
 use Rattle.refinement.specs.Sound.{Sound, Follows}
+use Rattle.refinement.specs.Promise.{Ran}
 
 -- over a sound middleware: the plain board's answer, the plain board after it, and sound again
 abbrev pub Serves : Call → Machine → Answer → Machine → Type 0
@@ -20,3 +23,7 @@ Tells c m a = Sound m → a ≡ board-step c (plain-of m) .0
 -- open, over the stores of the bank
 abbrev pub Opens : Machine → Answer → Machine → Type 0
 Opens before a after = Sound before → Follows (board-open (law-bank (before .stores)) (plain-of before)) a after
+
+-- a queue on an opened middleware: where it came from an accepted opening with no call yet, it has run the queue, with this history
+abbrev pub RunsOn : Machine → List Call → History → Machine → Type 0
+RunsOn before queue h after = (start : Board) (K : ℕ) → Ran start K [] [] before → Ran start K queue h after

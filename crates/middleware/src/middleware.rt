@@ -1,6 +1,7 @@
 use stub::Calls;
 
 mod calls;
+mod queue;
 
 #[derive(Drop)]
 pub struct Middleware<E: Calls> {

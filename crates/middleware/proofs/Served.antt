@@ -1,0 +1,88 @@
+-- A call that is the machine's, with the call put beside a refusal, is the plain board's.
+use mathlib.Core.Path.{_≡_, refl, sym, ap, subst, _∙_}
+use mathlib.Core.List.{List, [], _∷_, _++_}
+use Prim.Native.Nat.{ℕ}
+use native.Mathlib.Omega.{arith}
+use lib.ListN.{length}
+use Rattle.std.specs.declared.result.Result.{Result}
+use Rattle.std.specs.declared.result.Result.the-variants.{Ok, Err}
+use Rattle.calls.specs.declared.call.Call.{Call}
+use Rattle.machine.specs.declared.reason.Reason.{Reason}
+use Rattle.machine.specs.Machine.{Machine, Came}
+use Rattle.law.specs.History.{Answer, History}
+use Rattle.law.specs.History.Event.{event}
+use Rattle.law.specs.Opening.{PlainBoard, board-step}
+use Rattle.ledger.specs.declared.numbered.Numbered.{Numbered}
+use Rattle.ledger.specs.Sets.{SetModel, set-of}
+use Rattle.stub.specs.Seen.{set-result as set-seen}
+use Rattle.refinement.specs.Answers.{answered, set-listed}
+use Rattle.refinement.specs.Steps.{came, machine-step}
+use Rattle.refinement.specs.Worlds.{plain-of}
+use Rattle.refinement.specs.Sound.{Sound, Follows}
+use Rattle.refinement.specs.Promise.{Ran}
+use Rattle.refinement.proofs.Calls.{every-call}
+use Rattle.refinement.proofs.Queues.{ran-more}
+use Rattle.middleware.specs.declared.fault.BoardFault.{BoardFault}
+use Rattle.middleware.specs.declared.answer.Answer.{Answer as Answer′}
+use Rattle.middleware.specs.Listing.{listed, result-listed, asked-as, past}
+use Rattle.middleware.specs.Serving.{Serves, Tells, RunsOn}
+
+-- the call beside a refusal does not change what is listed
+listed-as : {A : Type 0} (f : A → Answer) (c : Call) (r : Result A Reason) → result-listed f (asked-as c r) ≡ answered f r
+listed-as f c (Ok a) = refl
+listed-as f c (Err e) = refl
+
+module _ {A : Type 0} (f : A → Answer) (c : Call) (before : Machine) (q : Result A Reason) (r : Result A BoardFault) (said : r ≡ asked-as c q) where
+  list : result-listed f r ≡ answered f q
+  list = ap (result-listed f) said ∙ listed-as f c q
+
+  pub serves : (after : Machine) (o : Came A) → machine-step c before ≡ came f o → q ≡ o .answer → after ≡ o .after → Serves c before (result-listed f r) after
+  serves after o is answer left sound =
+      let e = every-call c before sound in
+      let a : result-listed f r ≡ machine-step c before .0 = list ∙ ap (answered f) answer ∙ sym (ap (λ (x : Answer × Machine). x .0) is) in
+      let l : after ≡ machine-step c before .1 = left ∙ sym (ap (λ (x : Answer × Machine). x .1) is) in
+      record { answer = a ∙ e .answer; after = ap plain-of l ∙ e .after; sound = subst Sound (sym l) (e .sound) }
+
+  pub tells : (o : Result A Reason) → machine-step c before ≡ (answered f o, before) → q ≡ o → Tells c before (result-listed f r)
+  tells o is answer sound =
+      list ∙ ap (answered f) answer ∙ sym (ap (λ (x : Answer × Machine). x .0) is) ∙ every-call c before sound .answer
+
+-- a numbered write set is listed by what it means
+listed-set : (r : Result Numbered Reason) → answered (λ (w : Numbered). set-listed (set-of w)) r ≡ answered set-listed (set-seen r)
+listed-set (Ok w) = refl
+listed-set (Err e) = refl
+
+pub tells-set : (c : Call) (m : Machine) (q : Result Numbered Reason) (r : Result Numbered BoardFault) → r ≡ asked-as c q → (o : Result SetModel Reason) → machine-step c m ≡ (answered set-listed o, m) → set-seen q ≡ o → Tells c m (result-listed (λ (w : Numbered). set-listed (set-of w)) r)
+tells-set c m q r said o is answer sound =
+    ap (result-listed (λ (w : Numbered). set-listed (set-of w))) said ∙ listed-as (λ (w : Numbered). set-listed (set-of w)) c q ∙ listed-set q
+    ∙ ap (answered set-listed) answer ∙ sym (ap (λ (x : Answer × Machine). x .0) is) ∙ every-call c m sound .answer
+
+-- ---- the same call as one of a queue
+
+-- an answer that is listed alike
+pub serves-listed : (c : Call) (before : Machine) (a b : Answer) (after : Machine) → b ≡ a → Serves c before a after → Serves c before b after
+serves-listed c before a b after e f sound =
+    let x = f sound in
+    record { answer = e ∙ x .answer; after = x .after; sound = x .sound }
+
+-- a call that changes nothing
+pub serves-told : (c : Call) (m : Machine) (a b : Answer) → machine-step c m .1 ≡ m → b ≡ a → Tells c m a → Serves c m b m
+serves-told c m a b still e f sound =
+    let x = every-call c m sound in
+    record { answer = e ∙ f sound; after = ap plain-of (sym still) ∙ x .after; sound = sound }
+
+-- ---- one more call of a queue
+
+-- its answer behind the others
+pub past-push : (cs : List Call) (as′ : List Answer′) (c : Call) (a : Answer′) (h : History) → length cs ≡ length as′ → past (cs ++ c ∷ []) (as′ ++ a ∷ []) h ≡ event c (listed a) ∷ past cs as′ h
+unfolding past
+past-push [] [] c a h e = refl
+past-push [] (b ∷ as′) c a h e = absurd (omega arith)
+past-push (d ∷ cs) [] c a h e = absurd (omega arith)
+past-push (d ∷ cs) (b ∷ as′) c a h e = past-push cs as′ c a (event d (listed b) ∷ h) (omega arith)
+
+pub runs-more : (first before after : Machine) (cs : List Call) (as′ : List Answer′) (c : Call) (a : Answer′) → length cs ≡ length as′ → RunsOn first cs (past cs as′ []) before → Serves c before (listed a) after → RunsOn first (cs ++ c ∷ []) (past (cs ++ c ∷ []) (as′ ++ a ∷ []) []) after
+runs-more first before after cs as′ c a e r s start K new =
+    let ran = r start K new in
+    subst (λ (h : History). Ran start K (cs ++ c ∷ []) h after) (sym (past-push cs as′ c a [] e))
+    (ran-more start K cs (past cs as′ []) before c (listed a) after ran (s (ran .sound)))
