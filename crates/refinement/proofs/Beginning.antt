@@ -1,7 +1,7 @@
 -- Begin of the machine, beside the law's middleware.
 use mathlib.Core.Path.{_≡_, refl, sym, ap, subst, _∙_}
-use mathlib.Core.Bool.{Bool, true, false, cond, _&&_}
-use mathlib.Core.List.{List, [], _∷_, _++_, map}
+use mathlib.Core.Bool.{cond, _&&_}
+use mathlib.Core.List.{[], _∷_, _++_, map}
 use Prim.Native.Nat.{ℕ, suc, _+_, _≤_, _<_}
 use native.Mathlib.Omega.{arith}
 use lib.Dec.{eqb, ltb}
@@ -29,11 +29,11 @@ use Rattle.law.specs.History as law
 use Rattle.law.specs.Numbers.{count, whole}
 use Rattle.law.specs.Store.{Store, is-open, store-begin}
 use Rattle.law.specs.Opening.{store-at}
-use Rattle.law.specs.World.{Phase, Entry, World, is-working, working-at, working, picked, with-begin}
+use Rattle.law.specs.World.{Phase, World, is-working, working-at, working, picked, with-begin}
 use Rattle.law.specs.WorldSteps as steps
 use Rattle.law.specs.WorldSteps.{test, on-fine, world-step}
 use Rattle.refinement.specs.Stores.{law-store, law-bank}
-use Rattle.refinement.specs.Worlds.{phase-of, entry-of, applied-of, world-of}
+use Rattle.refinement.specs.Worlds.{phase-of, entry-of, world-of}
 use Rattle.refinement.specs.Steps.{came, machine-step}
 use Rattle.refinement.proofs.Stores.{done-of, same-begin}
 use Rattle.refinement.proofs.Lawful.{begin-lawful}

@@ -36,7 +36,7 @@ use Rattle.refinement.specs.Steps.{came, machine-open, machine-step}
 use Rattle.refinement.specs.Sound.{LawfulStores, EightMarks, Sound, Follows, EveryMaking, EveryOpening, EveryCall}
 use Rattle.refinement.proofs.Banks.{as-many-stores, store-is}
 use Rattle.refinement.proofs.Places.{first-of-sixteen, sixteen-picks}
-use Rattle.refinement.proofs.Simulation.{Fit, Reached, Matches}
+use Rattle.refinement.proofs.Simulation.{Fit, Matches}
 use Rattle.refinement.proofs.Beginning.{match-begin}
 use Rattle.refinement.proofs.Working.{match-read, match-write, match-give-up}
 use Rattle.refinement.proofs.Committing.{match-commit}

@@ -1,10 +1,10 @@
 -- Drain of the machine, beside the law's middleware: it counts its applications, and the count is the plain board's.
 use mathlib.Core.Path.{_≡_, refl, sym, ap, subst, _∙_}
-use mathlib.Core.Bool.{Bool, true, false, cond, not, _&&_, _||_}
+use mathlib.Core.Bool.{Bool, true, false, cond, not, _||_}
 use mathlib.Core.List.{List}
 use Prim.Native.Nat.{ℕ, zero, suc, _+_, _-_, _≤_, _<_, min}
 use native.Mathlib.Omega.{arith}
-use lib.Dec.{eqb, ltb}
+use lib.Dec.{eqb}
 use lib.ListN.{length, set, length-set}
 use Rattle.std.specs.declared.result.Result.the-variants.{Ok}
 use Rattle.std.proofs.shelf.Tests.{both-ways, eq-eqb, lt-ltb, not-true}
@@ -17,7 +17,7 @@ use Rattle.law.specs.History as law
 use Rattle.law.specs.Numbers.{count, lowest}
 use Rattle.law.specs.Plain.{Numbered, numbered, pairs}
 use Rattle.law.specs.Applications.{marked, lacks}
-use Rattle.law.specs.Store.{Store, Done, store-commit, store-play}
+use Rattle.law.specs.Store.{Done, store-commit, store-play}
 use Rattle.law.specs.Opening.{store-at}
 use Rattle.law.specs.World.{Phase, Entry, World, entry, place-of, in-phase, picked, with-applied}
 use Rattle.law.specs.WorldSteps as steps
@@ -27,13 +27,13 @@ use Rattle.law.specs.Coupled.{Coupled}
 use Rattle.law.proofs.Numbers.{Lowest, lowest-is, count-same}
 use Rattle.law.proofs.Few.{count-none, count-less}
 use Rattle.law.proofs.SimulatedSteps.{every-world-call}
-use Rattle.refinement.specs.Worlds.{applied-of, world-of}
+use Rattle.refinement.specs.Worlds.{world-of}
 use Rattle.refinement.specs.Steps.{came, machine-step}
 use Rattle.refinement.proofs.Sets.{as-many-sets, lowest-unapplied-is}
 use Rattle.refinement.proofs.Banks.{as-many-stores}
 use Rattle.refinement.proofs.Places.{first-of-sixteen, sixteen-picks}
 use Rattle.refinement.proofs.Simulation.{Fit, Matches, by-replica}
-use Rattle.refinement.proofs.Playing.{Played, gone, plays}
+use Rattle.refinement.proofs.Playing.{gone, plays}
 
 -- ---- what one application of the law's middleware leaves
 

@@ -1,30 +1,23 @@
 -- The questions of the machine, beside the law's middleware.
-use mathlib.Core.Path.{_≡_, refl, sym, ap, subst, _∙_}
-use mathlib.Core.Bool.{Bool, true}
-use mathlib.Core.List.{List, [], _∷_}
-use Prim.Native.Nat.{ℕ, _≤_, _<_}
+use mathlib.Core.Path.{_≡_, refl, sym, ap, subst}
+use mathlib.Core.Bool.{Bool}
+use mathlib.Core.List.{List, _∷_}
+use Prim.Native.Nat.{ℕ, _≤_}
 use lib.Dec.{ltb}
-use lib.ListN.{length, getD}
+use lib.ListN.{length}
 use Rattle.std.specs.declared.result.Result.{Result}
 use Rattle.std.specs.declared.result.Result.the-variants.{Ok, Err}
 use Rattle.calls.specs.declared.call.Call.the-variants as call
 use Rattle.tickets.specs.Boards.{value}
 use Rattle.stores.specs.Model as model
-use Rattle.stores.specs.Model.{StoreModel}
-use Rattle.banks.specs.Model as banks
-use Rattle.banks.specs.Model.{asked, lifted}
-use Rattle.ledger.specs.declared.progress.Progress.{Progress}
-use Rattle.ledger.specs.declared.transaction.Transaction.{Transaction}
-use Rattle.ledger.specs.declared.transaction.TransactionState.{TransactionState}
+use Rattle.banks.specs.Model.{asked}
 use Rattle.ledger.specs.Words.{up-to}
-use Rattle.ledger.specs.Transactions.{nth-transaction}
 use Rattle.ledger.specs.Sets.{SetModel, nth-set, progress-at}
 use Rattle.errands.specs.Outcomes.{look}
 use Rattle.machine.specs.declared.reason.Reason.{Reason}
 use Rattle.machine.specs.declared.reason.Reason.the-variants.{NoObject, NoWriteSet}
 use Rattle.machine.specs.Machine.{Machine, bind, raised, replica-at, transaction-at, object-at, set-at}
 use Rattle.law.specs.History as law
-use Rattle.law.specs.Numbers.{count, whole, flag}
 use Rattle.law.specs.Plain.{Numbered, numbered}
 use Rattle.law.specs.Steps.{set-values}
 use Rattle.law.specs.Store.{Store}

@@ -1,7 +1,7 @@
 -- Whole runs of a machine: made, opened, and given a queue, call after call.
-use mathlib.Core.Path.{_≡_, refl, sym, ap, subst, _∙_}
+use mathlib.Core.Path.{_≡_, refl, ap, subst}
 use mathlib.Core.Bool.{Bool, true, false}
-use mathlib.Core.List.{List, [], _∷_, _++_, map, append-assoc}
+use mathlib.Core.List.{List, [], _∷_, _++_, append-assoc}
 use Prim.Native.Nat.{ℕ}
 use lib.ListN.{length}
 use Rattle.std.proofs.shelf.Lists.{append-nil}
@@ -20,7 +20,7 @@ use Rattle.law.specs.Store.{Store}
 use Rattle.refinement.specs.Stores.{law-bank}
 use Rattle.refinement.specs.Worlds.{middle-of, plain-of}
 use Rattle.refinement.specs.Steps.{machine-open, machine-step}
-use Rattle.refinement.specs.Sound.{LawfulStores, Fresh, Sound, Follows}
+use Rattle.refinement.specs.Sound.{LawfulStores, Follows}
 use Rattle.refinement.specs.Promise.{Ran, run-from, EveryQueue, OwnBoards}
 use Rattle.refinement.proofs.Calls.{every-making, every-opening, every-call, opening-keeps-stores, bank-is, lawful-bank, unopened-is}
 

@@ -1,6 +1,4 @@
 -- What the machine does at each call: its answer, listed, and the machine after it.
-use mathlib.Core.List.{List}
-use Prim.Native.Nat.{ℕ}
 use Rattle.calls.specs.declared.call.Call.{Call}
 use Rattle.calls.specs.declared.call.Call.the-variants.{Begin, Read, Write, Commit, GiveUp, Apply, Drain, Value, State, WriteSet, Applied}
 use Rattle.machine.specs.Machine.{Machine, Came}
