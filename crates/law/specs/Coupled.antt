@@ -37,6 +37,7 @@ Apart T =
 -- what is kept from the opening on
 pub record Coupled (w : World) : Type 0 where
   pub orderly : Orderly (world-plain w)
+  -- a bank of more is not opened
   pub eight : length (w .bank) ≤ 8
   -- a store has committed what is applied there, and its open places are those of the open and pending transactions
   pub stores : (k : ℕ) → k < length (w .bank) → StoreOk (count (w .applied k) (length (w .sets))) (working k (w .entries)) (store-at (w .bank) k)

@@ -61,6 +61,7 @@ open-from start k (σ ∷ bank) =
 abbrev pub opening : List Store → Answer
 opening bank = cond (leb (length bank) 8) (open-from (start-of bank) 0 bank) (refused 10 [])
 
+-- the plain board, from the start on
 pub data PlainBoard : Type 0 where
   unopened : PlainBoard
   opened : Plain → PlainBoard

@@ -30,16 +30,16 @@ scene =
     event (Begin 1) (told 2) ∷ event (Begin 0) (told 1) ∷ []
 
 -- then transaction 3 begins at 0, writes objects 0 and 1, and is numbered 2
-abbrev pub next-calls : List Call
-next-calls = Begin 0 ∷ Write 3 0 9 ∷ Write 3 1 4 ∷ Commit 3 ∷ []
+abbrev pub sequel-calls : List Call
+sequel-calls = Begin 0 ∷ Write 3 0 9 ∷ Write 3 1 4 ∷ Commit 3 ∷ []
 
-abbrev pub next : History
-next = event (Commit 3) (told 2) ∷ event (Write 3 1 4) done ∷ event (Write 3 0 9) done ∷ event (Begin 0) (told 3) ∷ scene
+abbrev pub sequel : History
+sequel = event (Commit 3) (told 2) ∷ event (Write 3 1 4) done ∷ event (Write 3 0 9) done ∷ event (Begin 0) (told 3) ∷ scene
 
 -- The scene is the plain board's, and the law holds of it where the stores have what was applied
 pub record Scene : Type 0 where
   pub answers : run scene-calls [] (just-opened zeros 2) .0 ≡ scene
-  pub more : run next-calls scene (run scene-calls [] (just-opened zeros 2) .1) .0 ≡ next
+  pub more : run sequel-calls scene (run scene-calls [] (just-opened zeros 2) .1) .0 ≡ sequel
   pub law : Law zeros 2 scene (set zeros 0 5 ∷ zeros ∷ [])
 
 pub record Refuted : Type 0 where
@@ -58,7 +58,7 @@ pub record Refuted : Type 0 where
   -- a commit with writes that is taken for a read-only one
   pub overlooked-writes : Right zeros 2 (facts scene) (event (Commit 2) read-only) → ⊥
   -- the wrong clash named, 2 in place of 1
-  pub wrong-clash : Right zeros 2 (facts next) (event (Commit 2) (aborts 2)) → ⊥
+  pub wrong-clash : Right zeros 2 (facts sequel) (event (Commit 2) (aborts 2)) → ⊥
   -- a read that always says 0: of an own write, and of a snapshot
   pub own-read-of-zero : Right zeros 2 (facts scene) (event (Read 2 0) (told 0)) → ⊥
   pub read-of-zero : Right zeros 2 (facts (event (Begin 0) (told 3) ∷ scene)) (event (Read 3 0) (told 0)) → ⊥
@@ -71,6 +71,6 @@ pub record Refuted : Type 0 where
   -- a drain that reports m where fewer are lacking
   pub drain-of-m : (start : Board) (K : ℕ) (h : Facts) (k m : ℕ) → k < K → lacking h k < m → Right start K h (event (Drain k m) (told m)) → ⊥
   -- a drain that works once and reports 2: of the numbers 1 and 2 only 1 is played at replica 1
-  pub drain-once : Law zeros 2 (event (Drain 1 2) (told 2) ∷ next) (set zeros 0 5 ∷ set zeros 0 5 ∷ []) → ⊥
+  pub drain-once : Law zeros 2 (event (Drain 1 2) (told 2) ∷ sequel) (set zeros 0 5 ∷ set zeros 0 5 ∷ []) → ⊥
   -- 31 before 256 numbers
   pub early-31 : (p : Plain) (t : ℕ) (vs : List ℕ) → length (p .sets) < 256 → step (Commit t) p .0 ≡ refused 31 vs → ⊥

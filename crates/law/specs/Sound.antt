@@ -12,10 +12,12 @@ use Rattle.law.specs.World.{World, Picks, world-plain}
 use Rattle.law.specs.WorldSteps.{world-step}
 use Rattle.law.specs.Coupled.{Coupled}
 
+-- a middleware, with what it keeps and its bank
 pub data Middle : Type 0 where
   unopened : World → Middle
   opened : World → Middle
 
+-- the stores that it owns
 abbrev pub bank-of : Middle → List Store
 bank-of (Middle.unopened w) = w .bank
 bank-of (Middle.opened w) = w .bank
@@ -29,6 +31,7 @@ plain-of (Middle.opened w) = PlainBoard.opened (world-plain w)
 abbrev pub new-world : List Store → World
 new-world bank = record { start = []; sets = []; applied = λ _ _. false; entries = []; bank = bank }
 
+-- replica 0's board becomes the starting board
 abbrev pub with-start : World → World
 with-start w = record { start = start-of (w .bank); sets = w .sets; applied = w .applied; entries = w .entries; bank = w .bank }
 
