@@ -99,7 +99,7 @@ module _ (b : Machine) (fit : Fit b) (eight : length (b .stores) ≤ 8) where
         record { answer = ap law.told (omega (arith, as-many-entries b fit)); world = begun; fit = record { opened = fit .opened; stores = lawful-changed (b .stores) (fit .stores) k (λ a. model.begin-after a p) (λ a ok. begin-lawful a ok p); marks = fit .marks } })
 
   pub match-begin : (k : ℕ) → Matches (world-step first-of-sixteen (call.Begin k) w) (machine-step (call.Begin k) b)
-  unfolding world-step machine-step seen
+  unfolding world-step seen
   match-begin k =
       subst (λ o. Matches (world-step first-of-sixteen (call.Begin k) w) (came law.told o)) (sym (look-bind (replica-at b k) snapshot b ends))
       (by-replica b fit eight law.told k holes (λ h. look (snapshot h) b ends) (λ l.

@@ -99,7 +99,6 @@ pub unopened-is : (b : Machine) → b .opened ≡ false → middle-of b ≡ Midd
 unopened-is b e = ap (λ o. cond o (Middle.opened (world-of b)) (Middle.unopened (world-of b))) e
 
 unopened-step : (c : Call) (b : Machine) → b .opened ≡ false → machine-step c b ≡ (law.refused 20 [], b)
-unfolding machine-step
 unopened-step (Begin k) b e = rw e
 unopened-step (Read t j) b e = rw e
 unopened-step (Write t j v) b e = rw e

@@ -125,5 +125,5 @@ module _ (b : Machine) (fit : Fit b) (q : Coupled (world-of b)) (t : ℕ) where
         go (Err e) = λ c. absurd (both-ways true c refl)
 
   pub match-commit : (pick : List Bool → ℕ) → Matches (world-step pick (call.Commit t) w) (machine-step (call.Commit t) b)
-  unfolding world-step machine-step
+  unfolding world-step
   match-commit pick = by-open b fit verdict-listed t (Commit ReadOnly) commits-open _ _ (λ l n was. asks (home-within b fit q t l n) was)

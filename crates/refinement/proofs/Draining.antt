@@ -110,7 +110,7 @@ module _ (b : Machine) (fit : Fit b) (q : Coupled (world-of b)) (eight : length 
   w = world-of b
 
   pub match-drain : Matches (world-step first-of-sixteen (call.Drain k m) w) (machine-step (call.Drain k m) b)
-  unfolding world-step machine-step
+  unfolding world-step
   match-drain = by-replica b fit eight law.told k _ (λ h. drained h m 0 b) (λ l. go l (world-drained first-of-sixteen k m w) refl)
     where
       go : k < length (b .stores) → (g : Went) → world-drained first-of-sixteen k m w ≡ g → Matches (answered (law.told (min m (count (lacks (w .applied k)) (length (w .sets))))) g) (came law.told (drained k m 0 b))

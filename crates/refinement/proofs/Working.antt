@@ -105,7 +105,7 @@ module _ (b : Machine) (fit : Fit b) where
       m = banks.store-at (b .stores) (x .home)
 
       pub match-read : (j : ℕ) → Matches (world-step pick (call.Read t j) w) (machine-step (call.Read t j) b)
-      unfolding world-step machine-step
+      unfolding world-step
       match-read j =
           subst (λ o. Matches (on-entry t w body) (came law.told o)) (sym (still-bind (taking b t Read) (λ y. bind (object-at j) (read-by b y)) b))
           (by-open b fit law.told t Read reads-open body (λ y. still (bind (object-at j) (read-by b y)) b) (λ l n was.
@@ -124,7 +124,7 @@ module _ (b : Machine) (fit : Fit b) where
           go (Err e) = λ c. absurd (both-ways true c refl)
 
       pub match-give-up : Matches (world-step pick (call.GiveUp t) w) (machine-step (call.GiveUp t) b)
-      unfolding world-step machine-step
+      unfolding world-step
       match-give-up =
           by-open b fit quiet t GiveUp gives-up-open _ _ (λ l n was.
           by-store b fit quiet (x .home) (entry w t .home) (store-abort (home-of w t) (place-of w t)) (λ a. model.abort-answer a (x .place)) (λ a. model.abort-after a (x .place)) (λ σ. (law.done, with-entry w t Phase.given-up σ)) (λ _ c. done tt (told c t GiveUp)) (home-within t l n) same (λ _.
@@ -134,7 +134,7 @@ module _ (b : Machine) (fit : Fit b) where
           same = (λ i. store-abort (home-is t i) (place-is t i)) ∙ same-abort m (x .place)
 
       pub match-write : (j v : ℕ) → Matches (world-step pick (call.Write t j v) w) (machine-step (call.Write t j v) b)
-      unfolding world-step machine-step
+      unfolding world-step
       match-write j v =
           subst (λ o. Matches (on-entry t w body) (came quiet o)) (sym (look-bind (taking b t Write) (λ y. bind (object-at j) (λ _. bind (value-at j v) (λ _. Ok y))) b ends))
           (by-open b fit quiet t Write writes-open body (λ y. look (bind (object-at j) (λ _. bind (value-at j v) (λ _. Ok y))) b ends) (λ l n was.
