@@ -25,6 +25,10 @@ abbrev pub some-pairs : Pairs → Option Pairs
 some-pairs [] = None
 some-pairs (p ∷ ps) = Some (p ∷ ps)
 
+abbrev pub pairs-in : Option Pairs → Pairs
+pairs-in None = []
+pairs-in (Some ps) = ps
+
 -- the write set of a place; none where it has no own writes
 abbrev pub own-set : Place → Option Pairs
 own-set pl = some-pairs (pairs-from (pl .own) 0 128)

@@ -1,7 +1,6 @@
 -- Apply of the machine, beside the law's middleware.
-use mathlib.Core.Path.{_≡_, refl, sym, ap, subst, _∙_}
+use mathlib.Core.Path.{_≡_, refl, sym, ap, subst}
 use mathlib.Core.Bool.{Bool, true, false, cond, not}
-use mathlib.Core.List.{[], _∷_}
 use Prim.Native.Nat.{ℕ, zero, suc, _-_, _≤_, _<_}
 use native.Mathlib.Omega.{arith}
 use lib.ListN.{length}
@@ -62,7 +61,7 @@ module _ (b : Machine) (fit : Fit b) (q : Coupled (world-of b)) (eight : length 
         go false e = held e (lowest (holds (w .applied k) (w .sets) n) (n - 1))
 
   pub match-apply : Matches (world-step first-of-sixteen (call.Apply k n) w) (machine-step (call.Apply k n) b)
-  unfolding world-step machine-step
+  unfolding world-step
   match-apply =
       by-replica b fit eight quiet k numbered (λ h. look (applicable b h n) b (playing b h)) (λ l.
       subst (λ o. Matches numbered (came quiet o)) (sym (look-bind (set-at b n) (free-at b k n) b (playing b k)))

@@ -1,11 +1,9 @@
 -- A bank as the law has it: the store of a replica, one store changed, and what every store keeps.
-use mathlib.Core.Path.{_≡_, refl, sym, ap, subst, _∙_}
+use mathlib.Core.Path.{_≡_}
 use mathlib.Core.Logic.{_⊎_, inl, inr}
-use mathlib.Core.Bool.{true}
 use mathlib.Core.List.{List}
 use Prim.Native.Nat.{ℕ, _<_}
 use native.Mathlib.Omega.{arith}
-use lib.Dec.{ltb}
 use lib.ListN.{length, getD, set, length-map, length-set, List·getD-map}
 use Rattle.std.specs.declared.result.Result.{Result}
 use Rattle.std.proofs.shelf.Lists.{map-set, getD-set-same, getD-set-other}
@@ -14,7 +12,6 @@ use Rattle.stores.specs.declared.fault.StoreFault.{StoreFault}
 use Rattle.stores.specs.Model.{StoreModel, Lawful}
 use Rattle.banks.specs.Model as banks
 use Rattle.banks.specs.Model.{no-store, asked, changed, lifted}
-use Rattle.law.specs.Store.{Store}
 use Rattle.law.specs.Opening.{store-at}
 use Rattle.refinement.specs.Stores.{law-store, law-bank}
 use Rattle.refinement.specs.Sound.{LawfulStores}

@@ -1,7 +1,7 @@
 -- Begin of the machine, beside the law's middleware.
 use mathlib.Core.Path.{_≡_, refl, sym, ap, subst, _∙_}
-use mathlib.Core.Bool.{Bool, true, false, cond, _&&_}
-use mathlib.Core.List.{List, [], _∷_, _++_, map}
+use mathlib.Core.Bool.{cond, _&&_}
+use mathlib.Core.List.{[], _∷_, _++_, map}
 use Prim.Native.Nat.{ℕ, suc, _+_, _≤_, _<_}
 use native.Mathlib.Omega.{arith}
 use lib.Dec.{eqb, ltb}
@@ -29,11 +29,11 @@ use Rattle.law.specs.History as law
 use Rattle.law.specs.Numbers.{count, whole}
 use Rattle.law.specs.Store.{Store, is-open, store-begin}
 use Rattle.law.specs.Opening.{store-at}
-use Rattle.law.specs.World.{Phase, Entry, World, is-working, working-at, working, picked, with-begin}
+use Rattle.law.specs.World.{Phase, World, is-working, working-at, working, picked, with-begin}
 use Rattle.law.specs.WorldSteps as steps
 use Rattle.law.specs.WorldSteps.{test, on-fine, world-step}
 use Rattle.refinement.specs.Stores.{law-store, law-bank}
-use Rattle.refinement.specs.Worlds.{phase-of, entry-of, applied-of, world-of}
+use Rattle.refinement.specs.Worlds.{phase-of, entry-of, world-of}
 use Rattle.refinement.specs.Steps.{came, machine-step}
 use Rattle.refinement.proofs.Stores.{done-of, same-begin}
 use Rattle.refinement.proofs.Lawful.{begin-lawful}
@@ -99,7 +99,7 @@ module _ (b : Machine) (fit : Fit b) (eight : length (b .stores) ≤ 8) where
         record { answer = ap law.told (omega (arith, as-many-entries b fit)); world = begun; fit = record { opened = fit .opened; stores = lawful-changed (b .stores) (fit .stores) k (λ a. model.begin-after a p) (λ a ok. begin-lawful a ok p); marks = fit .marks } })
 
   pub match-begin : (k : ℕ) → Matches (world-step first-of-sixteen (call.Begin k) w) (machine-step (call.Begin k) b)
-  unfolding world-step machine-step seen
+  unfolding world-step seen
   match-begin k =
       subst (λ o. Matches (world-step first-of-sixteen (call.Begin k) w) (came law.told o)) (sym (look-bind (replica-at b k) snapshot b ends))
       (by-replica b fit eight law.told k holes (λ h. look (snapshot h) b ends) (λ l.

@@ -1,7 +1,7 @@
 -- The place that a transaction gets was not open.
-use mathlib.Core.Path.{_≡_, refl, sym, ap, subst, _∙_}
+use mathlib.Core.Path.{_≡_, refl, sym, ap, _∙_}
 use mathlib.Core.Bool.{Bool, true, false, cond}
-use mathlib.Core.List.{List, [], _∷_, _++_}
+use mathlib.Core.List.{[], _∷_, _++_}
 use Prim.Native.Nat.{ℕ, _+_, _-_}
 use native.Mathlib.Omega.{arith}
 use lib.Dec.{ltb}
@@ -26,7 +26,7 @@ use Rattle.errands.specs.Replay.{begin-at}
 use Rattle.machine.specs.declared.reason.Reason.{Reason}
 use Rattle.machine.specs.declared.reason.Reason.the-variants.{NoReplica, NotOpened}
 use Rattle.machine.specs.Machine.{Machine, Came, bind, through, raised, with-stores, with-txns, replica-at}
-use Rattle.machine.specs.Beginning.{starting, snapshot-at, room-at, beginning}
+use Rattle.machine.specs.Beginning.{starting, snapshot-at, room-at}
 use Rattle.refinement.specs.Places.{PlaceWasShut, EveryPlace}
 
 -- a place that a store begins at was not open

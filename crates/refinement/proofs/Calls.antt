@@ -36,7 +36,7 @@ use Rattle.refinement.specs.Steps.{came, machine-open, machine-step}
 use Rattle.refinement.specs.Sound.{LawfulStores, EightMarks, Sound, Follows, EveryMaking, EveryOpening, EveryCall}
 use Rattle.refinement.proofs.Banks.{as-many-stores, store-is}
 use Rattle.refinement.proofs.Places.{first-of-sixteen, sixteen-picks}
-use Rattle.refinement.proofs.Simulation.{Fit, Reached, Matches}
+use Rattle.refinement.proofs.Simulation.{Fit, Matches}
 use Rattle.refinement.proofs.Beginning.{match-begin}
 use Rattle.refinement.proofs.Working.{match-read, match-write, match-give-up}
 use Rattle.refinement.proofs.Committing.{match-commit}
@@ -95,11 +95,10 @@ module _ (b : Machine) (s : Sound b) (yes : b .opened ≡ true) where
 
 -- ---- a machine that is not opened
 
-unopened-is : (b : Machine) → b .opened ≡ false → middle-of b ≡ Middle.unopened (world-of b)
+pub unopened-is : (b : Machine) → b .opened ≡ false → middle-of b ≡ Middle.unopened (world-of b)
 unopened-is b e = ap (λ o. cond o (Middle.opened (world-of b)) (Middle.unopened (world-of b))) e
 
 unopened-step : (c : Call) (b : Machine) → b .opened ≡ false → machine-step c b ≡ (law.refused 20 [], b)
-unfolding machine-step
 unopened-step (Begin k) b e = rw e
 unopened-step (Read t j) b e = rw e
 unopened-step (Write t j v) b e = rw e
@@ -158,6 +157,9 @@ opens b = go (b .opened) refl (may-open-is (b .stores))
         by (outcomes.refused r b) (Middle.unopened w) (not-opened e ∙ ap (λ x. look x b (λ start. outcomes.done tt (opened-on b start))) i) (unopened-is b e)
         (record { answer = sym a; after = unopened-is b e ∙ sym (ap (λ c. cond c (Middle.opened (with-start w)) (Middle.unopened w)) (ap accepted a ∙ n)); stores = refl; sets = refl })
 
+pub opening-keeps-stores : (b : Machine) → machine-open b .1 .stores ≡ b .stores
+opening-keeps-stores b = opens b .stores
+
 -- the bank of the law's middleware
 pub bank-is : (b : Machine) → middle.bank-of (middle-of b) ≡ law-bank (b .stores)
 bank-is b = go (b .opened)
@@ -179,7 +181,7 @@ every-opening b s =
 
 -- ---- making
 
-lawful-bank : (ms : List StoreModel) → LawfulStores ms → LawfulBank (law-bank ms)
+pub lawful-bank : (ms : List StoreModel) → LawfulStores ms → LawfulBank (law-bank ms)
 lawful-bank ms ok k l =
     let h = ok k (omega (arith, as-many-stores ms)) in
     rw (store-is ms k) (record { whole = h .whole; least-most = h .least-most; least-places = omega (arith, h .least-places, length-map (store-at ms k .places) law-place) })

@@ -1,13 +1,11 @@
 -- Commit of the machine, beside the law's middleware.
 use mathlib.Core.Path.{_≡_, refl, sym, ap, subst, _∙_}
-use mathlib.Core.Bool.{Bool, true, false, cond}
+use mathlib.Core.Bool.{Bool, true, false}
 use mathlib.Core.List.{List, [], _∷_, _++_, map}
-use Prim.Native.Nat.{ℕ, zero, suc, _+_, _-_, _≤_, _<_}
+use Prim.Native.Nat.{ℕ, zero, suc, _+_, _-_, _<_}
 use native.Mathlib.Omega.{arith}
 use lib.Dec.{ltb}
 use lib.ListN.{length, set, replicate}
-use Rattle.std.specs.declared.option.Option.{Option}
-use Rattle.std.specs.declared.option.Option.the-variants.{Some, None}
 use Rattle.std.specs.declared.result.Result.{Result}
 use Rattle.std.specs.declared.result.Result.the-variants.{Ok, Err}
 use Rattle.std.proofs.shelf.Lists.{map-push}
@@ -18,33 +16,28 @@ use Rattle.stores.specs.declared.fault.StoreFault.{StoreFault}
 use Rattle.stores.specs.Model as model
 use Rattle.stores.specs.Model.{StoreModel, Place}
 use Rattle.banks.specs.Model as banks
-use Rattle.banks.specs.Model.{changed, lifted}
-use Rattle.ledger.specs.declared.verdict.Verdict.{Verdict}
+use Rattle.banks.specs.Model.{lifted}
 use Rattle.ledger.specs.declared.verdict.Verdict.the-variants.{ReadOnly, Numbered, Clash}
 use Rattle.ledger.specs.declared.transaction.Event.the-variants.{Commit}
 use Rattle.ledger.specs.declared.transaction.Transaction.{Transaction}
-use Rattle.ledger.specs.declared.transaction.TransactionState.{TransactionState}
 use Rattle.ledger.specs.declared.transaction.TransactionState.the-variants.{Open, Pending, Committed, Aborted}
 use Rattle.ledger.specs.Words.{some-number}
 use Rattle.ledger.specs.Transactions.{nth-transaction}
 use Rattle.ledger.specs.Sets.{SetModel, lowest-clash}
-use Rattle.errands.specs.Outcomes.{look, step, done}
+use Rattle.errands.specs.Outcomes.{look}
 use Rattle.errands.specs.Own.{some-pairs, own-set, own-answer}
-use Rattle.errands.specs.Replay.{commit-at, abort-at}
 use Rattle.machine.specs.declared.reason.Reason.the-variants.{WriteSetsGiven}
-use Rattle.machine.specs.Machine.{Machine, Came, with-stores, raised, told}
+use Rattle.machine.specs.Machine.{Machine, raised, told}
 use Rattle.machine.specs.Committing.{own-of, judged, end-reading, end-clashing, numbered, register, by-clash, by-own}
 use Rattle.law.specs.History as law
 use Rattle.law.specs.Numbers.{lowest}
-use Rattle.law.specs.Plain as plain
 use Rattle.law.specs.Transactions.{clashes}
-use Rattle.law.specs.Store.{Store, store-own, store-commit, store-abort}
+use Rattle.law.specs.Store.{store-own, store-commit, store-abort}
 use Rattle.law.specs.World.{Phase, Entry, World, entry, home-of, place-of, in-phase, with-entry, with-number}
-use Rattle.law.specs.WorldSteps as steps
-use Rattle.law.specs.WorldSteps.{test, on-entry, on-fine, on-owned, world-verdict, world-commit, world-step}
+use Rattle.law.specs.WorldSteps.{test, on-fine, on-owned, world-verdict, world-commit, world-step}
 use Rattle.law.specs.Coupled.{Coupled}
 use Rattle.refinement.specs.Stores.{all-pairs, law-store}
-use Rattle.refinement.specs.Worlds.{entry-of, numbered-of, applied-of, world-of}
+use Rattle.refinement.specs.Worlds.{numbered-of, world-of}
 use Rattle.refinement.specs.Answers.{verdict-listed}
 use Rattle.refinement.specs.Steps.{came, machine-step}
 use Rattle.refinement.proofs.Stores.{owned-of, done-of, same-own, same-commit, same-abort}
@@ -132,5 +125,5 @@ module _ (b : Machine) (fit : Fit b) (q : Coupled (world-of b)) (t : ℕ) where
         go (Err e) = λ c. absurd (both-ways true c refl)
 
   pub match-commit : (pick : List Bool → ℕ) → Matches (world-step pick (call.Commit t) w) (machine-step (call.Commit t) b)
-  unfolding world-step machine-step
+  unfolding world-step
   match-commit pick = by-open b fit verdict-listed t (Commit ReadOnly) commits-open _ _ (λ l n was. asks (home-within b fit q t l n) was)

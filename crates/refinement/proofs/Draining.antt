@@ -1,10 +1,10 @@
 -- Drain of the machine, beside the law's middleware: it counts its applications, and the count is the plain board's.
 use mathlib.Core.Path.{_≡_, refl, sym, ap, subst, _∙_}
-use mathlib.Core.Bool.{Bool, true, false, cond, not, _&&_, _||_}
+use mathlib.Core.Bool.{Bool, true, false, cond, not, _||_}
 use mathlib.Core.List.{List}
 use Prim.Native.Nat.{ℕ, zero, suc, _+_, _-_, _≤_, _<_, min}
 use native.Mathlib.Omega.{arith}
-use lib.Dec.{eqb, ltb}
+use lib.Dec.{eqb}
 use lib.ListN.{length, set, length-set}
 use Rattle.std.specs.declared.result.Result.the-variants.{Ok}
 use Rattle.std.proofs.shelf.Tests.{both-ways, eq-eqb, lt-ltb, not-true}
@@ -17,7 +17,7 @@ use Rattle.law.specs.History as law
 use Rattle.law.specs.Numbers.{count, lowest}
 use Rattle.law.specs.Plain.{Numbered, numbered, pairs}
 use Rattle.law.specs.Applications.{marked, lacks}
-use Rattle.law.specs.Store.{Store, Done, store-commit, store-play}
+use Rattle.law.specs.Store.{Done, store-commit, store-play}
 use Rattle.law.specs.Opening.{store-at}
 use Rattle.law.specs.World.{Phase, Entry, World, entry, place-of, in-phase, picked, with-applied}
 use Rattle.law.specs.WorldSteps as steps
@@ -27,13 +27,13 @@ use Rattle.law.specs.Coupled.{Coupled}
 use Rattle.law.proofs.Numbers.{Lowest, lowest-is, count-same}
 use Rattle.law.proofs.Few.{count-none, count-less}
 use Rattle.law.proofs.SimulatedSteps.{every-world-call}
-use Rattle.refinement.specs.Worlds.{applied-of, world-of}
+use Rattle.refinement.specs.Worlds.{world-of}
 use Rattle.refinement.specs.Steps.{came, machine-step}
 use Rattle.refinement.proofs.Sets.{as-many-sets, lowest-unapplied-is}
 use Rattle.refinement.proofs.Banks.{as-many-stores}
 use Rattle.refinement.proofs.Places.{first-of-sixteen, sixteen-picks}
 use Rattle.refinement.proofs.Simulation.{Fit, Matches, by-replica}
-use Rattle.refinement.proofs.Playing.{Played, gone, plays}
+use Rattle.refinement.proofs.Playing.{gone, plays}
 
 -- ---- what one application of the law's middleware leaves
 
@@ -110,7 +110,7 @@ module _ (b : Machine) (fit : Fit b) (q : Coupled (world-of b)) (eight : length 
   w = world-of b
 
   pub match-drain : Matches (world-step first-of-sixteen (call.Drain k m) w) (machine-step (call.Drain k m) b)
-  unfolding world-step machine-step
+  unfolding world-step
   match-drain = by-replica b fit eight law.told k _ (λ h. drained h m 0 b) (λ l. go l (world-drained first-of-sixteen k m w) refl)
     where
       go : k < length (b .stores) → (g : Went) → world-drained first-of-sixteen k m w ≡ g → Matches (answered (law.told (min m (count (lacks (w .applied k)) (length (w .sets))))) g) (came law.told (drained k m 0 b))

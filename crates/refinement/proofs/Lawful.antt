@@ -1,8 +1,8 @@
 -- Every store call keeps what every store keeps.
-use mathlib.Core.Path.{_≡_, refl, sym, ap, subst, _∙_}
+use mathlib.Core.Path.{_≡_, refl, sym, _∙_}
 use mathlib.Core.Logic.{_⊎_, inl, inr, ⊎-elim}
 use mathlib.Core.Bool.{Bool, true, false, cond, _||_}
-use mathlib.Core.List.{List, [], _∷_, map}
+use mathlib.Core.List.{List, [], _∷_}
 use Prim.Native.Nat.{ℕ, zero, suc, _+_, _≤_, _<_}
 use native.Mathlib.Omega.{arith}
 use lib.Dec.{eqb, ltb}
@@ -15,7 +15,7 @@ use Rattle.std.specs.declared.result.Result.the-variants.{Ok, Err}
 use Rattle.std.proofs.shelf.Tests.{cases-eq, ltb-true, eq-eqb, ne-eqb, eqb-false, or-cases}
 use Rattle.stores.specs.declared.fault.StoreFault.{StoreFault}
 use Rattle.stores.specs.declared.fault.StoreFault.the-variants.{NoPlace, NoObject, NinthObject}
-use Rattle.stores.specs.Model.{StoreModel, Place, Lawful, OwnLawful, with-write, with-own, no-writes, written, own-count, count-below, fresh, with-place, held, vacant, leaves, bind, write-at, overtaken-by, spread, landed, played, clashes, begin-after, write-after, commit-after, commit-left, abort-after}
+use Rattle.stores.specs.Model.{StoreModel, Place, Lawful, OwnLawful, with-write, with-own, no-writes, written, own-count, count-below, fresh, with-place, held, vacant, leaves, bind, write-at, overtaken-by, spread, landed, clashes, begin-after, write-after, commit-after, commit-left, abort-after}
 use Rattle.stores.proofs.Steps.{length-played}
 
 -- ---- how many objects are written

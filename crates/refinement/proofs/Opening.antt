@@ -1,5 +1,5 @@
 -- Opening the machine, beside the law's middleware.
-use mathlib.Core.Path.{_≡_, refl, sym, ap, subst, _∙_}
+use mathlib.Core.Path.{_≡_, refl, sym, ap, _∙_}
 use mathlib.Core.Logic.{_⊎_, inl, inr}
 use mathlib.Core.Bool.{Bool, true, false, cond, _||_}
 use mathlib.Core.List.{List, [], _∷_, map}
@@ -7,7 +7,6 @@ use Prim.Native.Nat.{ℕ, zero, suc, _+_, _-_, _≤_, _<_}
 use native.Mathlib.Omega.{arith}
 use lib.Dec.{ltb, leb}
 use lib.ListN.{length}
-use Rattle.std.specs.Options.{isSome}
 use Rattle.std.specs.declared.option.Option.{Option}
 use Rattle.std.specs.declared.option.Option.the-variants.{Some, None}
 use Rattle.std.specs.declared.result.Result.{Result}
@@ -17,7 +16,7 @@ use Rattle.tickets.specs.Boards.{Board}
 use Rattle.stores.specs.Model.{StoreModel, Place}
 use Rattle.banks.specs.Model.{told-count}
 use Rattle.errands.specs.Copies as copies
-use Rattle.errands.specs.Copies.{any-open, used, above-top, first-above-top, first-unlike}
+use Rattle.errands.specs.Copies.{any-open, used, above-top}
 use Rattle.machine.specs.declared.reason.Reason.{Reason}
 use Rattle.machine.specs.declared.reason.Reason.the-variants.{ReplicaUsed, ReplicaAboveTop, ReplicaUnlike, TooManyReplicas}
 use Rattle.machine.specs.Reasons.{from-store, listed}
@@ -25,7 +24,7 @@ use Rattle.machine.specs.Machine.{bind}
 use Rattle.machine.specs.Opening as machine
 use Rattle.machine.specs.Opening.{copy-fits, copies-fit, starting-board, may-open}
 use Rattle.law.specs.History as law
-use Rattle.law.specs.History.{Answer, accepted}
+use Rattle.law.specs.History.{accepted}
 use Rattle.law.specs.Numbers.{lowest, or-else}
 use Rattle.law.specs.Store.{Store, open-count}
 use Rattle.law.specs.Opening.{start-of, is-used, too-high, unlike, first-object, unless-found, open-from, opening}

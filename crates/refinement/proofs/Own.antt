@@ -2,21 +2,20 @@
 use mathlib.Core.Path.{_≡_, refl, sym, ap, _∙_}
 use mathlib.Core.Logic.{_⊎_, inl, inr, _≢_, ⊎-elim}
 use mathlib.Core.Bool.{Bool, true, false, cond, _&&_, _||_}
-use mathlib.Core.List.{List, [], _∷_}
-use Prim.Native.Nat.{ℕ, zero, suc, _+_, _-_, _≤_, _<_}
+use mathlib.Core.List.{[], _∷_}
+use Prim.Native.Nat.{ℕ, zero, suc, _+_, _≤_, _<_}
 use native.Mathlib.Omega.{arith}
-use lib.Dec.{eqb, ltb, leb}
+use lib.Dec.{eqb}
 use lib.ListN.{length, getD}
 use Rattle.std.specs.Options.{isSome}
 use Rattle.std.specs.declared.option.Option.{Option}
 use Rattle.std.specs.declared.option.Option.the-variants.{Some, None}
-use Rattle.std.proofs.shelf.Tests.{cases-eq, cases-lt, eq-eqb, ne-eqb, lt-ltb, le-ltb, cond-true, cond-false}
-use Rattle.std.proofs.shelf.Ways.{tells}
-use Rattle.std.proofs.shelf.Lists.{ext-getD, nil-from-length}
-use Rattle.tickets.specs.Boards.{Board, value}
-use Rattle.tickets.specs.WriteSets.{Pairs, lookup, stands, play, over}
+use Rattle.std.proofs.shelf.Tests.{cases-eq, cases-lt, eq-eqb, ne-eqb, lt-ltb, le-ltb}
+use Rattle.std.proofs.shelf.Lists.{ext-getD}
+use Rattle.tickets.specs.Boards.{Board}
+use Rattle.tickets.specs.WriteSets.{Pairs, lookup, play, over}
 use Rattle.tickets.proofs.Playing.{value-play, length-play}
-use Rattle.stores.specs.Model.{Place, no-writes, with-write, count-below, any-below, orElse, played}
+use Rattle.stores.specs.Model.{no-writes, with-write, count-below, any-below, orElse, played}
 use Rattle.stores.proofs.Steps.{length-played, getD-played}
 use Rattle.errands.specs.Own.{told-pair, pairs-from}
 use Rattle.law.specs.Writes.{put, is-empty}

@@ -1,21 +1,19 @@
 -- The place that the machine takes: the first of the places 0 to 15 that is not open.
-use mathlib.Core.Path.{_≡_, refl, sym, ap, _∙_}
+use mathlib.Core.Path.{_≡_, refl, ap, _∙_}
 use mathlib.Core.Logic.{_⊎_, inl, inr, ⊎-elim}
 use mathlib.Core.Bool.{Bool, true, false, cond, not}
 use mathlib.Core.List.{List, [], _∷_, map}
 use Prim.Native.Nat.{ℕ, zero, suc, _+_, _≤_, _<_}
 use native.Mathlib.Omega.{arith}
-use lib.Dec.{ltb}
 use lib.ListN.{length, getD, length-map}
 use Rattle.std.specs.Options.{isSome}
 use Rattle.std.specs.declared.option.Option.{Option}
 use Rattle.std.specs.declared.option.Option.the-variants.{Some, None}
-use Rattle.std.specs.declared.result.Result.the-variants.{Ok, Err}
+use Rattle.std.specs.declared.result.Result.the-variants.{Ok}
 use Rattle.std.proofs.shelf.Lists.{getD-map}
-use Rattle.std.proofs.shelf.Tests.{cases-bool, cases-eq, lt-ltb}
+use Rattle.std.proofs.shelf.Tests.{cases-eq, lt-ltb}
 use Rattle.stores.specs.Model.{StoreModel, Place, open-answer}
 use Rattle.banks.specs.Model as banks
-use Rattle.banks.specs.Model.{lifted}
 use Rattle.errands.specs.Places.{is-vacant, vacant-at, vacant-from, vacant}
 use Rattle.law.specs.Numbers.{tally}
 use Rattle.law.specs.Store.{is-open}

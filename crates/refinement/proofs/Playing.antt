@@ -2,16 +2,15 @@
 use mathlib.Core.Path.{_≡_, refl, sym, ap, subst, _∙_}
 use mathlib.Core.Logic.{_⊎_, inl, inr}
 use mathlib.Core.Bool.{Bool, true, false, cond}
-use mathlib.Core.List.{List, [], _∷_, map}
+use mathlib.Core.List.{List, map}
 use Prim.Native.Nat.{ℕ, _-_, _≤_, _<_}
 use native.Mathlib.Omega.{arith}
 use lib.Dec.{eqb}
-use lib.ListN.{length, getD, set, length-map, List·getD-map}
+use lib.ListN.{length, set, List·getD-map}
 use Rattle.std.specs.declared.option.Option.{Option}
-use Rattle.std.specs.declared.result.Result.the-variants.{Ok, Err}
-use Rattle.std.proofs.shelf.Tests.{cases-eq, eq-eqb, ne-eqb, eqb-true}
+use Rattle.std.specs.declared.result.Result.the-variants.{Ok}
+use Rattle.std.proofs.shelf.Tests.{cases-eq, ne-eqb, eqb-true}
 use Rattle.stores.specs.Model.{StoreModel}
-use Rattle.banks.specs.Model as banks
 use Rattle.ledger.specs.declared.transaction.Event.the-variants.{Applied}
 use Rattle.ledger.specs.declared.transaction.Transaction.{Transaction}
 use Rattle.ledger.specs.declared.transaction.TransactionState.{TransactionState}
@@ -29,16 +28,16 @@ use Rattle.law.specs.Store.Done.{fine, failed}
 use Rattle.law.specs.Opening.{store-at}
 use Rattle.law.specs.World.{Phase, Entry, World, no-entry, entry, place-of, state-of, transaction-of, world-plain, in-phase, picked, with-applied}
 use Rattle.law.specs.WorldSteps.{Went, and-go, world-play}
-use Rattle.law.specs.WorldSteps.Went.{went, stuck}
+use Rattle.law.specs.WorldSteps.Went.{went}
 use Rattle.law.specs.Coupled.{Coupled}
-use Rattle.refinement.specs.Stores.{law-store, law-bank}
+use Rattle.refinement.specs.Stores.{law-bank}
 use Rattle.refinement.specs.Worlds.{phase-of, entry-of, numbered-of, applied-of, world-of}
 use Rattle.refinement.specs.Sound.{LawfulStores}
 use Rattle.refinement.proofs.Sets.{as-many-sets, set-is, mark-keeps-sets, mark-is, mark-keeps-eight}
 use Rattle.refinement.proofs.Banks.{store-is}
 use Rattle.refinement.proofs.Places.{first-of-sixteen}
 use Rattle.refinement.proofs.Beginning.{same-place}
-use Rattle.refinement.proofs.Replaying.{Through, commits, replays}
+use Rattle.refinement.proofs.Replaying.{commits, replays}
 use Rattle.refinement.proofs.Simulation.{Fit, entry-is}
 use Rattle.refinement.proofs.Working.{entries-moved}
 

@@ -1,30 +1,23 @@
 -- The questions of the machine, beside the law's middleware.
-use mathlib.Core.Path.{_≡_, refl, sym, ap, subst, _∙_}
-use mathlib.Core.Bool.{Bool, true}
-use mathlib.Core.List.{List, [], _∷_}
-use Prim.Native.Nat.{ℕ, _≤_, _<_}
+use mathlib.Core.Path.{_≡_, refl, sym, ap, subst}
+use mathlib.Core.Bool.{Bool}
+use mathlib.Core.List.{List, _∷_}
+use Prim.Native.Nat.{ℕ, _≤_}
 use lib.Dec.{ltb}
-use lib.ListN.{length, getD}
+use lib.ListN.{length}
 use Rattle.std.specs.declared.result.Result.{Result}
 use Rattle.std.specs.declared.result.Result.the-variants.{Ok, Err}
 use Rattle.calls.specs.declared.call.Call.the-variants as call
 use Rattle.tickets.specs.Boards.{value}
 use Rattle.stores.specs.Model as model
-use Rattle.stores.specs.Model.{StoreModel}
-use Rattle.banks.specs.Model as banks
-use Rattle.banks.specs.Model.{asked, lifted}
-use Rattle.ledger.specs.declared.progress.Progress.{Progress}
-use Rattle.ledger.specs.declared.transaction.Transaction.{Transaction}
-use Rattle.ledger.specs.declared.transaction.TransactionState.{TransactionState}
+use Rattle.banks.specs.Model.{asked}
 use Rattle.ledger.specs.Words.{up-to}
-use Rattle.ledger.specs.Transactions.{nth-transaction}
 use Rattle.ledger.specs.Sets.{SetModel, nth-set, progress-at}
 use Rattle.errands.specs.Outcomes.{look}
 use Rattle.machine.specs.declared.reason.Reason.{Reason}
 use Rattle.machine.specs.declared.reason.Reason.the-variants.{NoObject, NoWriteSet}
 use Rattle.machine.specs.Machine.{Machine, bind, raised, replica-at, transaction-at, object-at, set-at}
 use Rattle.law.specs.History as law
-use Rattle.law.specs.Numbers.{count, whole, flag}
 use Rattle.law.specs.Plain.{Numbered, numbered}
 use Rattle.law.specs.Steps.{set-values}
 use Rattle.law.specs.Store.{Store}
@@ -44,7 +37,7 @@ module _ (b : Machine) (fit : Fit b) (eight : length (b .stores) ≤ 8) (pick : 
   w = world-of b
 
   pub match-value : (k j : ℕ) → Matches (world-step pick (call.Value k j) w) (machine-step (call.Value k j) b)
-  unfolding world-step machine-step
+  unfolding world-step
   match-value k j =
       subst (λ o. Matches (world-step pick (call.Value k j) w) (came law.told o)) (sym (still-bind (replica-at b k) object b))
       (by-replica b fit eight law.told k there (λ h. still (object h) b) (λ l.
@@ -63,14 +56,14 @@ module _ (b : Machine) (fit : Fit b) (eight : length (b .stores) ≤ 8) (pick : 
       there = test (ltb j 128) 3 w (law.told (value (store-at (w .bank) k .board) j), w)
 
   pub match-state : (t : ℕ) → Matches (world-step pick (call.State t) w) (machine-step (call.State t) b)
-  unfolding world-step machine-step
+  unfolding world-step
   match-state t =
       subst (λ o. Matches (world-step pick (call.State t) w) (came state-listed o)) (sym (still-bind (transaction-at b t) (λ x. Ok (x .state, x .s)) b))
       (by-transaction b fit state-listed t (law.values (entry w t .s ∷ phase-values (entry w t .phase)), w) (λ x. still (Ok (x .state, x .s)) b) (λ l n _.
       record { answer = ap (λ (y : Entry). law.values (y .s ∷ phase-values (y .phase))) (sym (entry-is b fit t)); world = refl; fit = fit }))
 
   pub match-write-set : (n : ℕ) → Matches (world-step pick (call.WriteSet n) w) (machine-step (call.WriteSet n) b)
-  unfolding world-step machine-step
+  unfolding world-step
   match-write-set n =
       subst (λ (a : Result SetModel Reason). Matches (world-step pick (call.WriteSet n) w) (came set-listed (still a b))) (sym (if-opened-is b fit (set-at b n)))
       (subst (λ o. Matches (world-step pick (call.WriteSet n) w) (came set-listed o)) (told (set-at b n))
@@ -82,7 +75,7 @@ module _ (b : Machine) (fit : Fit b) (eight : length (b .stores) ≤ 8) (pick : 
       told (Err e) = refl
 
   pub match-applied : (k : ℕ) → Matches (world-step pick (call.Applied k) w) (machine-step (call.Applied k) b)
-  unfolding world-step machine-step
+  unfolding world-step
   match-applied k =
       subst (λ o. Matches (world-step pick (call.Applied k) w) (came progress-listed o)) (sym (still-bind (replica-at b k) (λ h. Ok (progress-at (b .sets) h)) b))
       (by-replica b fit eight progress-listed k _ (λ h. still (Ok (progress-at (b .sets) h)) b) (λ l _.

@@ -3,7 +3,7 @@ use mathlib.Core.Path.{_≡_, refl, sym, ap, subst, _∙_}
 use mathlib.Core.List.{List, [], _∷_}
 use Prim.Native.Nat.{ℕ, _<_}
 use native.Mathlib.Omega.{arith}
-use lib.ListN.{length, getD, set, length-set}
+use lib.ListN.{length, set, length-set}
 use Rattle.std.specs.declared.result.Result.{Result}
 use Rattle.std.specs.declared.result.Result.the-variants.{Ok, Err}
 use Rattle.std.proofs.shelf.Lists.{getD-set-same, set-set, set-getD}
@@ -13,7 +13,7 @@ use Rattle.stores.specs.Model as model
 use Rattle.stores.specs.Model.{StoreModel, Lawful}
 use Rattle.banks.specs.declared.fault.BankFault.{BankFault}
 use Rattle.banks.specs.Model as banks
-use Rattle.banks.specs.Model.{changed, lifted}
+use Rattle.banks.specs.Model.{lifted}
 use Rattle.errands.specs.Outcomes.{step, done}
 use Rattle.errands.specs.Replay.{AtBank, at, begin-at, write-at, commit-at, write-all, end-with, end-at, finish, fill, replay}
 use Rattle.law.specs.Store.{Store, Done, next, store-begin, store-write, store-write-all, store-commit, store-play}

@@ -1,17 +1,15 @@
 -- The numbered write sets of the machine, and where they are applied, as the law has them.
 use mathlib.Core.Path.{_≡_, refl, sym, ap, fun-ext, _∙_}
 use mathlib.Core.Logic.{_⊎_, inl, inr, ⊎-elim}
-use mathlib.Core.Bool.{Bool, true, false, cond, not, _&&_, _||_}
+use mathlib.Core.Bool.{Bool, true, false, not, _&&_, _||_}
 use mathlib.Core.List.{List, [], _∷_, _++_, map}
-use Prim.Native.Nat.{ℕ, zero, suc, _+_, _-_, _≤_, _<_}
+use Prim.Native.Nat.{ℕ, zero, suc, _-_, _≤_, _<_}
 use native.Mathlib.Omega.{arith}
 use lib.Dec.{eqb, ltb}
 use lib.ListN.{length, getD, set, replicate, length-map, List·getD-map}
-use Rattle.std.specs.declared.option.Option.{Option}
-use Rattle.std.proofs.shelf.Lists.{map-set, map-push, set-getD, getD-set-same, getD-set-other, getD-append-left, getD-push, getD-past, length-push, getD-replicate, length-replicate, length-set}
+use Rattle.std.proofs.shelf.Lists.{map-set, set-getD, getD-set-same, getD-set-other, getD-append-left, getD-push, getD-past, length-push, getD-replicate, length-set}
 use Rattle.std.proofs.shelf.Tests.{cases-eq, cases-lt, eq-eqb, ne-eqb}
 use Rattle.tickets.specs.WriteSets.{Pairs}
-use Rattle.ledger.specs.declared.progress.Progress.{Progress}
 use Rattle.ledger.specs.Words as words
 use Rattle.ledger.specs.Sets.{SetModel, no-set, nth-set, is-applied, applied-at, marked-set, progress-at, lowest-clash, lowest-holding, lowest-unapplied}
 use Rattle.law.specs.Numbers.{count, whole, lowest}

@@ -1,15 +1,14 @@
 -- The machine beside the law's middleware, step by step: checks, looks at a transaction, and calls of a store.
 use mathlib.Core.Path.{_≡_, refl, sym, ap, subst, _∙_}
-use mathlib.Core.Logic.{_⊎_, inl, inr}
 use mathlib.Core.Bool.{Bool, true, false, cond}
-use mathlib.Core.List.{List, [], _∷_, map}
-use Prim.Native.Nat.{ℕ, _-_, _≤_, _<_, min}
+use mathlib.Core.List.{[]}
+use Prim.Native.Nat.{ℕ, _-_, _≤_, _<_}
 use native.Mathlib.Omega.{arith}
 use lib.Dec.{ltb, leb}
-use lib.ListN.{length, getD, set, length-map, List·getD-map}
+use lib.ListN.{length, length-map, List·getD-map}
 use Rattle.std.specs.declared.result.Result.{Result}
 use Rattle.std.specs.declared.result.Result.the-variants.{Ok, Err}
-use Rattle.std.proofs.shelf.Tests.{both-ways, ltb-true, lt-ltb, leb-true, and-parts, cond-true}
+use Rattle.std.proofs.shelf.Tests.{both-ways, ltb-true, leb-true, and-parts, cond-true}
 use Rattle.stores.specs.declared.fault.StoreFault.{StoreFault}
 use Rattle.stores.specs.Model.{StoreModel}
 use Rattle.banks.specs.Model as banks
@@ -29,13 +28,12 @@ use Rattle.machine.specs.Machine.{Machine, Came, with-stores, bind, through, ra
 use Rattle.law.specs.History.{Answer, is-fault}
 use Rattle.law.specs.History.Answer.{refused}
 use Rattle.law.specs.Store.{Store, Done}
-use Rattle.law.specs.World.{Phase, Entry, World, entry}
+use Rattle.law.specs.World.{Entry, World, entry}
 use Rattle.law.specs.WorldSteps as steps
 use Rattle.law.specs.WorldSteps.{test, on-phase, on-entry, on-fine}
-use Rattle.law.specs.Coupled.{Coupled}
 use Rattle.refinement.specs.Stores.{law-store}
 use Rattle.refinement.specs.Worlds.{phase-of, entry-of, world-of}
-use Rattle.refinement.specs.Answers.{refusal, answered}
+use Rattle.refinement.specs.Answers.{refusal}
 use Rattle.refinement.specs.Steps.{came}
 use Rattle.refinement.specs.Sound.{LawfulStores, EightMarks}
 use Rattle.refinement.proofs.Stores.{done-of}

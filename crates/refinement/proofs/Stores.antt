@@ -14,15 +14,15 @@ use Rattle.std.specs.declared.result.Result.the-variants.{Ok, Err}
 use Rattle.std.proofs.shelf.Lists.{map-set}
 use Rattle.std.proofs.shelf.Tests.{ltb-true}
 use Rattle.tickets.specs.Boards.{value}
-use Rattle.tickets.specs.WriteSets.{Pairs, lookup, stands, play, over}
+use Rattle.tickets.specs.WriteSets.{Pairs, lookup, play, over}
 use Rattle.stores.specs.declared.fault.StoreFault.{StoreFault}
 use Rattle.stores.specs.declared.fault.StoreFault.the-variants.{NoPlace, NoObject, NinthObject, Overtaken, Full}
 use Rattle.stores.specs.Faults.{number-of}
 use Rattle.stores.specs.Model as model
 use Rattle.stores.specs.Model.{StoreModel, OwnLawful}
-use Rattle.errands.specs.Own.{pairs-from, some-pairs, own-set, own-answer}
-use Rattle.law.specs.Writes.{put, room, is-empty}
-use Rattle.law.specs.Store.{Place, Store, Done, Got, Owned, with-place, begin-in, read-in, write-in, own-in, is-overtaken, overtake-in, overtake-all, commit-in, abort-in, store-begin, store-read, store-write, store-own, store-commit, store-abort}
+use Rattle.errands.specs.Own.{some-pairs, own-set, own-answer}
+use Rattle.law.specs.Writes.{put, room}
+use Rattle.law.specs.Store.{Place, Store, Done, Got, Owned, with-place, begin-in, read-in, write-in, own-in, overtake-in, overtake-all, commit-in, abort-in, store-begin, store-read, store-write, store-own, store-commit, store-abort}
 use Rattle.law.specs.Store.Done.{fine, failed}
 use Rattle.law.specs.Store.Got.{got, bad}
 use Rattle.law.specs.Store.Owned.{owns, ownless}

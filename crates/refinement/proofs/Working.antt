@@ -1,13 +1,13 @@
 -- Read, write and give-up of the machine, beside the law's middleware.
 use mathlib.Core.Path.{_≡_, refl, sym, ap, subst, _∙_}
-use mathlib.Core.Bool.{Bool, true, false, cond}
-use mathlib.Core.List.{List, [], _∷_, map}
+use mathlib.Core.Bool.{Bool, true, false}
+use mathlib.Core.List.{List, map}
 use Prim.Native.Nat.{ℕ, _-_, _≤_, _<_}
 use native.Mathlib.Omega.{arith}
 use lib.Dec.{eqb, ltb, leb}
-use lib.ListN.{length, getD, set, length-map, List·getD-map}
+use lib.ListN.{length, set, length-map, List·getD-map}
 use Rattle.std.specs.Options.{valueOr}
-use Rattle.std.specs.declared.option.Option.the-variants.{Some, None}
+use Rattle.std.specs.declared.option.Option.the-variants.{Some}
 use Rattle.std.specs.declared.result.Result.{Result}
 use Rattle.std.specs.declared.result.Result.the-variants.{Ok, Err}
 use Rattle.std.proofs.shelf.Lists.{map-set, set-getD}
@@ -28,9 +28,8 @@ use Rattle.ledger.specs.declared.transaction.TransactionState.the-variants.{Ope
 use Rattle.ledger.specs.Transactions.{next, moved, nth-transaction}
 use Rattle.errands.specs.Outcomes.{look, done}
 use Rattle.errands.specs.Replay.{write-at}
-use Rattle.machine.specs.declared.reason.Reason.{Reason}
 use Rattle.machine.specs.declared.reason.Reason.the-variants.{NoObject, AboveTop}
-use Rattle.machine.specs.Machine.{Machine, Came, with-stores, with-txns, told, bind, raised, taking, object-at}
+use Rattle.machine.specs.Machine.{Machine, Came, with-stores, told, bind, raised, taking, object-at}
 use Rattle.machine.specs.Working.{read-by, value-at, write-raised, written}
 use Rattle.law.specs.History as law
 use Rattle.law.specs.History.{Answer}
@@ -41,17 +40,16 @@ use Rattle.law.specs.Store.{Store, store-read, store-write, store-abort}
 use Rattle.law.specs.Opening.{store-at}
 use Rattle.law.specs.World.{Phase, Entry, World, no-entry, entry, home-of, place-of, board-of, transaction-of, world-plain, in-phase, with-bank, with-entry}
 use Rattle.law.specs.WorldSteps as steps
-use Rattle.law.specs.WorldSteps.{test, on-entry, on-fine, read-answer, write-answer, world-step}
+use Rattle.law.specs.WorldSteps.{test, on-entry, read-answer, write-answer, world-step}
 use Rattle.law.specs.Coupled.{Coupled}
 use Rattle.refinement.specs.Stores.{law-store, law-bank}
 use Rattle.refinement.specs.Worlds.{phase-of, entry-of, world-of}
-use Rattle.refinement.specs.Answers.{answered, quiet}
+use Rattle.refinement.specs.Answers.{quiet}
 use Rattle.refinement.specs.Steps.{came, machine-step}
-use Rattle.refinement.specs.Sound.{LawfulStores}
 use Rattle.refinement.proofs.Stores.{got-of, done-of, same-read, same-write, same-abort}
 use Rattle.refinement.proofs.Lawful.{write-lawful, abort-lawful}
 use Rattle.refinement.proofs.Banks.{as-many-stores, store-is, asked-is, bank-changed, lawful-changed}
-use Rattle.refinement.proofs.Simulation.{Fit, Reached, Matches, OpenOnly, look-bind, still, still-bind, unchanged, by-check, by-open, by-store, entry-is, as-many-entries}
+use Rattle.refinement.proofs.Simulation.{Fit, Matches, OpenOnly, look-bind, still, still-bind, unchanged, by-check, by-open, by-store, entry-is, as-many-entries}
 
 -- only an open transaction takes these
 reads-open : OpenOnly Read
@@ -107,7 +105,7 @@ module _ (b : Machine) (fit : Fit b) where
       m = banks.store-at (b .stores) (x .home)
 
       pub match-read : (j : ℕ) → Matches (world-step pick (call.Read t j) w) (machine-step (call.Read t j) b)
-      unfolding world-step machine-step
+      unfolding world-step
       match-read j =
           subst (λ o. Matches (on-entry t w body) (came law.told o)) (sym (still-bind (taking b t Read) (λ y. bind (object-at j) (read-by b y)) b))
           (by-open b fit law.told t Read reads-open body (λ y. still (bind (object-at j) (read-by b y)) b) (λ l n was.
@@ -126,7 +124,7 @@ module _ (b : Machine) (fit : Fit b) where
           go (Err e) = λ c. absurd (both-ways true c refl)
 
       pub match-give-up : Matches (world-step pick (call.GiveUp t) w) (machine-step (call.GiveUp t) b)
-      unfolding world-step machine-step
+      unfolding world-step
       match-give-up =
           by-open b fit quiet t GiveUp gives-up-open _ _ (λ l n was.
           by-store b fit quiet (x .home) (entry w t .home) (store-abort (home-of w t) (place-of w t)) (λ a. model.abort-answer a (x .place)) (λ a. model.abort-after a (x .place)) (λ σ. (law.done, with-entry w t Phase.given-up σ)) (λ _ c. done tt (told c t GiveUp)) (home-within t l n) same (λ _.
@@ -136,7 +134,7 @@ module _ (b : Machine) (fit : Fit b) where
           same = (λ i. store-abort (home-is t i) (place-is t i)) ∙ same-abort m (x .place)
 
       pub match-write : (j v : ℕ) → Matches (world-step pick (call.Write t j v) w) (machine-step (call.Write t j v) b)
-      unfolding world-step machine-step
+      unfolding world-step
       match-write j v =
           subst (λ o. Matches (on-entry t w body) (came quiet o)) (sym (look-bind (taking b t Write) (λ y. bind (object-at j) (λ _. bind (value-at j v) (λ _. Ok y))) b ends))
           (by-open b fit quiet t Write writes-open body (λ y. look (bind (object-at j) (λ _. bind (value-at j v) (λ _. Ok y))) b ends) (λ l n was.

@@ -8,11 +8,21 @@ use Rattle.tickets.specs.Boards.{Board}
 use Rattle.stores.specs.Model.{StoreModel}
 use Rattle.machine.specs.Machine.{Machine}
 use Rattle.law.specs.History.{accepted, History, run-of}
+use Rattle.law.specs.Plain.{just-opened}
+use Rattle.law.specs.Steps.{run}
+use Rattle.law.specs.Opening.{PlainBoard}
 use Rattle.law.specs.World.{board-of}
 use Rattle.law.specs.Promise.{Promised}
 use Rattle.refinement.specs.Stores.{law-bank}
+use Rattle.refinement.specs.Worlds.{plain-of}
 use Rattle.refinement.specs.Steps.{machine-open, machine-step}
-use Rattle.refinement.specs.Sound.{LawfulStores, Fresh}
+use Rattle.refinement.specs.Sound.{LawfulStores, Fresh, Sound}
+
+-- so far: of a board of K replicas just opened, the calls that were made, their history, and what the machine came to
+pub record Ran (start : Board) (K : ℕ) (calls : List Call) (h : History) (b : Machine) : Type 0 where
+  pub answers : h ≡ run calls [] (just-opened start K) .0
+  pub plain : plain-of b ≡ PlainBoard.opened (run calls [] (just-opened start K) .1)
+  pub sound : Sound b
 
 -- the calls one after the other; where the opening is refused, none is made
 abbrev pub run-from : List Call → Bool → Machine → History × Machine

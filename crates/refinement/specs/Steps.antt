@@ -1,6 +1,4 @@
 -- What the machine does at each call: its answer, listed, and the machine after it.
-use mathlib.Core.List.{List}
-use Prim.Native.Nat.{ℕ}
 use Rattle.calls.specs.declared.call.Call.{Call}
 use Rattle.calls.specs.declared.call.Call.the-variants.{Begin, Read, Write, Commit, GiveUp, Apply, Drain, Value, State, WriteSet, Applied}
 use Rattle.machine.specs.Machine.{Machine, Came}
@@ -20,7 +18,7 @@ came f o = (answered f (o .answer), o .after)
 abbrev pub machine-open : Machine → Answer × Machine
 machine-open b = came quiet (opening b)
 
-unfoldable pub machine-step : Call → Machine → Answer × Machine
+abbrev pub machine-step : Call → Machine → Answer × Machine
 machine-step (Begin k) b = came told (beginning b k)
 machine-step (Read t j) b = (answered told (reading b t j), b)
 machine-step (Write t j v) b = came quiet (writing b t j v)
