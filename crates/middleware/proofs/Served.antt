@@ -1,9 +1,10 @@
 -- A call that is the machine's, with the call put beside a refusal, is the plain board's.
 use mathlib.Core.Path.{_≡_, refl, sym, ap, subst, _∙_}
 use mathlib.Core.List.{List, [], _∷_, _++_}
-use Prim.Native.Nat.{ℕ}
+use Prim.Native.Nat.{ℕ, _+_, _≤_, _<_}
+use Rattle.std.proofs.shelf.Lists.{take-more, take-all, length-take-le}
 use native.Mathlib.Omega.{arith}
-use lib.ListN.{length}
+use lib.ListN.{length, getD, take}
 use Rattle.std.specs.declared.result.Result.{Result}
 use Rattle.std.specs.declared.result.Result.the-variants.{Ok, Err}
 use Rattle.calls.specs.declared.call.Call.{Call}
@@ -86,3 +87,13 @@ runs-more first before after cs as′ c a e r s start K new =
     let ran = r start K new in
     subst (λ (h : History). Ran start K (cs ++ c ∷ []) h after) (sym (past-push cs as′ c a [] e))
     (ran-more start K cs (past cs as′ []) before c (listed a) after ran (s (ran .sound)))
+
+pub runs-next : (first before after : Machine) (queue : List Call) (i : ℕ) (as′ more : List Answer′) (d : Call) (a : Answer′) → i < length queue → length as′ ≡ i → more ≡ as′ ++ a ∷ [] → RunsOn first (take i queue) (past (take i queue) as′ []) before → Serves (getD queue i d) before (listed a) after → RunsOn first (take (i + 1) queue) (past (take (i + 1) queue) more []) after
+runs-next first before after queue i as′ more d a h l e r s =
+    let n = length-take-le i queue (omega arith) in
+    let t = take-more queue i d h in
+    subst (λ (x : List Call × List Answer′). RunsOn first (x .0) (past (x .0) (x .1) []) after) (λ k. (sym t k, sym e k))
+    (runs-more first before after (take i queue) as′ (getD queue i d) a (omega arith) r s)
+
+pub runs-all : (first after : Machine) (queue : List Call) (i : ℕ) (as′ : List Answer′) → length queue ≤ i → RunsOn first (take i queue) (past (take i queue) as′ []) after → RunsOn first queue (past queue as′ []) after
+runs-all first after queue i as′ h r = subst (λ (x : List Call). RunsOn first x (past x as′ []) after) (take-all i queue h) r

@@ -2,12 +2,10 @@ use mathlib.Core.Path.{refl}
 use Rattle.calls.specs.declared.call.Call.the-variants.{Begin}
 use Rattle.machine.specs.Beginning.{beginning}
 use Rattle.law.specs.History.Answer.{told}
-use Rattle.refinement.specs.Steps.{machine-step}
 use Rattle.middleware.proofs.Served.{serves}
 use Rattle.middleware.proofs.middleware.Middleware.begin.Needs as need
 
 pub returns : need.returns
-unfolding machine-step
 returns g c =
     let before = g .E·Calls .seen (c .args .self .now .engine) in
     record { law = serves told (Begin (c .args .k)) before _ _ (c .asked .ensures .answer) (g .E·Calls .seen (c .begin .last .self)) (beginning before (c .args .k)) refl (c .begin .ensures .answer) (c .begin .ensures .after) }

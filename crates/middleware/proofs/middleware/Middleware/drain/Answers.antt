@@ -2,12 +2,10 @@ use mathlib.Core.Path.{refl}
 use Rattle.calls.specs.declared.call.Call.the-variants.{Drain}
 use Rattle.machine.specs.Applying.{draining}
 use Rattle.law.specs.History.Answer.{told}
-use Rattle.refinement.specs.Steps.{machine-step}
 use Rattle.middleware.proofs.Served.{serves}
 use Rattle.middleware.proofs.middleware.Middleware.drain.Needs as need
 
 pub returns : need.returns
-unfolding machine-step
 returns g c =
     let before = g .E·Calls .seen (c .args .self .now .engine) in
     record { law = serves told (Drain (c .args .k) (c .args .m)) before _ _ (c .asked .ensures .answer) (g .E·Calls .seen (c .drain .last .self)) (draining before (c .args .k) (c .args .m)) refl (c .drain .ensures .answer) (c .drain .ensures .after) }

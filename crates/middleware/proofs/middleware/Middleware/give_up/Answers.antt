@@ -2,12 +2,10 @@ use mathlib.Core.Path.{refl}
 use Rattle.calls.specs.declared.call.Call.the-variants.{GiveUp}
 use Rattle.machine.specs.Working.{giving-up}
 use Rattle.refinement.specs.Answers.{quiet}
-use Rattle.refinement.specs.Steps.{machine-step}
 use Rattle.middleware.proofs.Served.{serves}
 use Rattle.middleware.proofs.middleware.Middleware.give_up.Needs as need
 
 pub returns : need.returns
-unfolding machine-step
 returns g c =
     let before = g .E·Calls .seen (c .args .self .now .engine) in
     record { law = serves quiet (GiveUp (c .args .t)) before _ _ (c .asked .ensures .answer) (g .E·Calls .seen (c .give-up .last .self)) (giving-up before (c .args .t)) refl (c .give-up .ensures .answer) (c .give-up .ensures .after) }

@@ -2,12 +2,10 @@ use mathlib.Core.Path.{refl}
 use Rattle.calls.specs.declared.call.Call.the-variants.{Applied}
 use Rattle.machine.specs.Questions.{progress-told}
 use Rattle.refinement.specs.Answers.{progress-listed}
-use Rattle.refinement.specs.Steps.{machine-step}
 use Rattle.middleware.proofs.Served.{tells}
 use Rattle.middleware.proofs.middleware.Middleware.progress.Needs as need
 
 pub returns : need.returns
-unfolding machine-step
 returns g c =
     let before = g .E·Calls .seen (c .args .self .now .engine) in
     record { law = tells progress-listed (Applied (c .args .k)) before _ _ (c .asked .ensures .answer) (progress-told before (c .args .k)) refl (c .progress .ensures .answer) }

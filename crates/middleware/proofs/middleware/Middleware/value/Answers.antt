@@ -2,12 +2,10 @@ use mathlib.Core.Path.{refl}
 use Rattle.calls.specs.declared.call.Call.the-variants.{Value}
 use Rattle.machine.specs.Questions.{value-told}
 use Rattle.law.specs.History.Answer.{told}
-use Rattle.refinement.specs.Steps.{machine-step}
 use Rattle.middleware.proofs.Served.{tells}
 use Rattle.middleware.proofs.middleware.Middleware.value.Needs as need
 
 pub returns : need.returns
-unfolding machine-step
 returns g c =
     let before = g .E·Calls .seen (c .args .self .now .engine) in
     record { law = tells told (Value (c .args .k) (c .args .j)) before _ _ (c .asked .ensures .answer) (value-told before (c .args .k) (c .args .j)) refl (c .value .ensures .answer) }

@@ -2,12 +2,10 @@ use mathlib.Core.Path.{refl}
 use Rattle.calls.specs.declared.call.Call.the-variants.{Write}
 use Rattle.machine.specs.Working.{writing}
 use Rattle.refinement.specs.Answers.{quiet}
-use Rattle.refinement.specs.Steps.{machine-step}
 use Rattle.middleware.proofs.Served.{serves}
 use Rattle.middleware.proofs.middleware.Middleware.write.Needs as need
 
 pub returns : need.returns
-unfolding machine-step
 returns g c =
     let before = g .E·Calls .seen (c .args .self .now .engine) in
     record { law = serves quiet (Write (c .args .t) (c .args .j) (c .args .v)) before _ _ (c .asked .ensures .answer) (g .E·Calls .seen (c .write .last .self)) (writing before (c .args .t) (c .args .j) (c .args .v)) refl (c .write .ensures .answer) (c .write .ensures .after) }
