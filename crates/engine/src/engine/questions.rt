@@ -1,6 +1,6 @@
 // The questions. They change nothing.
 ghost use mathlib.Core.Path.{_≡_};
-ghost use Rattle.machine.specs.Questions.{value-told, state-told, set-told, progress-told, start-told};
+ghost use Rattle.machine.specs.Questions.{value-told, state-told, set-told, progress-told, numbers-told, start-told};
 ghost use Rattle.engine.specs.Seen.{seen, set-seen};
 use crate::engine::Engine;
 use crate::engine::looks::object;
@@ -45,6 +45,16 @@ impl<B: Bank> Engine<B> {
     {
         let replica = self.replica(k)?;
         Ok(self.sets.progress(replica))
+    }
+
+    /// How many write sets have numbers.
+    pub fn numbers(&self) -> Result<usize, Reason>
+        ensures answer { λ r. ⌜ r ≡ numbers-told (seen (B·Bank .stores) (now (self .entry))) ⌝ }
+    {
+        if !self.opened {
+            return Err(Reason::NotOpened);
+        }
+        Ok(self.sets.len())
     }
 
     /// The board that every replica began with.
