@@ -15,7 +15,7 @@ use Rattle.law.specs.History.Event.{event}
 use Rattle.law.specs.Opening.{PlainBoard, board-step}
 use Rattle.ledger.specs.declared.numbered.Numbered.{Numbered}
 use Rattle.ledger.specs.Sets.{SetModel, set-of}
-use Rattle.stub.specs.Seen.{set-result as set-seen}
+use Rattle.engine.specs.Seen.{set-seen}
 use Rattle.refinement.specs.Answers.{answered, set-listed}
 use Rattle.refinement.specs.Steps.{came, machine-step}
 use Rattle.refinement.specs.Worlds.{plain-of}

@@ -1,9 +1,11 @@
-use stub::Calls;
+// The board over a bank that it owns: the calls that stations make, and the law of whole queues.
+use banks::Bank;
+use engine::Engine;
 
 mod calls;
 mod queue;
 
 #[derive(Drop)]
-pub struct Middleware<E: Calls> {
-    engine: E,
+pub struct Middleware<B: Bank> {
+    engine: Engine<B>,
 }

@@ -16,7 +16,7 @@ use ledger::Progress;
 use ledger::TransactionState;
 use ledger::Verdict;
 use machine::Reason;
-use stub::Calls;
+use banks::Bank;
 
 // What was answered, with the call beside a refusal.
 fn asked<T>(call: Call, r: Result<T, Reason>) -> Result<T, BoardFault>
@@ -31,80 +31,80 @@ fn asked<T>(call: Call, r: Result<T, Reason>) -> Result<T, BoardFault>
     }
 }
 
-impl<E: Calls> Middleware<E> {
+impl<B: Bank> Middleware<B> {
     /// Begins a transaction at a replica: its number.
     pub fn begin(&mut self, k: u32) -> Result<u32, BoardFault>
-        ensures law { λ r. ⌜ Serves (Begin k) (held (E·Calls .seen) (now (self .entry))) (result-listed told r) (held (E·Calls .seen) (now (self .exit))) ⌝ }
+        ensures law { λ r. ⌜ Serves (Begin k) (held (B·Bank .stores) (now (self .entry))) (result-listed told r) (held (B·Bank .stores) (now (self .exit))) ⌝ }
     {
         asked(Call::Begin(k), self.engine.begin(k))
     }
 
     /// The transaction's own write of an object, else its snapshot's value.
     pub fn read(&self, t: u32, j: u32) -> Result<u32, BoardFault>
-        ensures law { λ r. ⌜ Tells (Read t j) (held (E·Calls .seen) (now (self .entry))) (result-listed told r) ⌝ }
+        ensures law { λ r. ⌜ Tells (Read t j) (held (B·Bank .stores) (now (self .entry))) (result-listed told r) ⌝ }
     {
         asked(Call::Read(t, j), self.engine.read(t, j))
     }
 
     /// Sets an own write of the transaction.
     pub fn write(&mut self, t: u32, j: u32, v: u32) -> Result<(), BoardFault>
-        ensures law { λ r. ⌜ Serves (Write t j v) (held (E·Calls .seen) (now (self .entry))) (result-listed quiet r) (held (E·Calls .seen) (now (self .exit))) ⌝ }
+        ensures law { λ r. ⌜ Serves (Write t j v) (held (B·Bank .stores) (now (self .entry))) (result-listed quiet r) (held (B·Bank .stores) (now (self .exit))) ⌝ }
     {
         asked(Call::Write(t, j, v), self.engine.write(t, j, v))
     }
 
     /// Asks for the transaction's verdict.
     pub fn commit(&mut self, t: u32) -> Result<Verdict, BoardFault>
-        ensures law { λ r. ⌜ Serves (Commit t) (held (E·Calls .seen) (now (self .entry))) (result-listed verdict-listed r) (held (E·Calls .seen) (now (self .exit))) ⌝ }
+        ensures law { λ r. ⌜ Serves (Commit t) (held (B·Bank .stores) (now (self .entry))) (result-listed verdict-listed r) (held (B·Bank .stores) (now (self .exit))) ⌝ }
     {
         asked(Call::Commit(t), self.engine.commit(t))
     }
 
     /// Ends a transaction without a verdict.
     pub fn give_up(&mut self, t: u32) -> Result<(), BoardFault>
-        ensures law { λ r. ⌜ Serves (GiveUp t) (held (E·Calls .seen) (now (self .entry))) (result-listed quiet r) (held (E·Calls .seen) (now (self .exit))) ⌝ }
+        ensures law { λ r. ⌜ Serves (GiveUp t) (held (B·Bank .stores) (now (self .entry))) (result-listed quiet r) (held (B·Bank .stores) (now (self .exit))) ⌝ }
     {
         asked(Call::GiveUp(t), self.engine.give_up(t))
     }
 
     /// Plays the write set of a number over a replica.
     pub fn apply(&mut self, k: u32, n: u32) -> Result<(), BoardFault>
-        ensures law { λ r. ⌜ Serves (Apply k n) (held (E·Calls .seen) (now (self .entry))) (result-listed quiet r) (held (E·Calls .seen) (now (self .exit))) ⌝ }
+        ensures law { λ r. ⌜ Serves (Apply k n) (held (B·Bank .stores) (now (self .entry))) (result-listed quiet r) (held (B·Bank .stores) (now (self .exit))) ⌝ }
     {
         asked(Call::Apply(k, n), self.engine.apply(k, n))
     }
 
     /// Applies the lowest unapplied numbers at a replica, at most m of them: how many.
     pub fn drain(&mut self, k: u32, m: u32) -> Result<u32, BoardFault>
-        ensures law { λ r. ⌜ Serves (Drain k m) (held (E·Calls .seen) (now (self .entry))) (result-listed told r) (held (E·Calls .seen) (now (self .exit))) ⌝ }
+        ensures law { λ r. ⌜ Serves (Drain k m) (held (B·Bank .stores) (now (self .entry))) (result-listed told r) (held (B·Bank .stores) (now (self .exit))) ⌝ }
     {
         asked(Call::Drain(k, m), self.engine.drain(k, m))
     }
 
     /// The current value of an object in a replica's own store.
     pub fn value(&self, k: u32, j: u32) -> Result<u32, BoardFault>
-        ensures law { λ r. ⌜ Tells (Value k j) (held (E·Calls .seen) (now (self .entry))) (result-listed told r) ⌝ }
+        ensures law { λ r. ⌜ Tells (Value k j) (held (B·Bank .stores) (now (self .entry))) (result-listed told r) ⌝ }
     {
         asked(Call::Value(k, j), self.engine.value(k, j))
     }
 
     /// The state of a transaction, and its snapshot number.
     pub fn state(&self, t: u32) -> Result<(TransactionState, u16), BoardFault>
-        ensures law { λ r. ⌜ Tells (State t) (held (E·Calls .seen) (now (self .entry))) (result-listed state-listed r) ⌝ }
+        ensures law { λ r. ⌜ Tells (State t) (held (B·Bank .stores) (now (self .entry))) (result-listed state-listed r) ⌝ }
     {
         asked(Call::State(t), self.engine.state(t))
     }
 
     /// The write set of a number, with its home and its snapshot number.
     pub fn write_set(&self, n: u32) -> Result<Numbered, BoardFault>
-        ensures law { λ r. ⌜ Tells (WriteSet n) (held (E·Calls .seen) (now (self .entry))) (result-listed (λ w. set-listed (set-of w)) r) ⌝ }
+        ensures law { λ r. ⌜ Tells (WriteSet n) (held (B·Bank .stores) (now (self .entry))) (result-listed (λ w. set-listed (set-of w)) r) ⌝ }
     {
         asked(Call::WriteSet(n), self.engine.write_set(n))
     }
 
     /// How many numbers are applied at a replica, and whether without holes.
     pub fn progress(&self, k: u32) -> Result<Progress, BoardFault>
-        ensures law { λ r. ⌜ Tells (Applied k) (held (E·Calls .seen) (now (self .entry))) (result-listed progress-listed r) ⌝ }
+        ensures law { λ r. ⌜ Tells (Applied k) (held (B·Bank .stores) (now (self .entry))) (result-listed progress-listed r) ⌝ }
     {
         asked(Call::Applied(k), self.engine.progress(k))
     }

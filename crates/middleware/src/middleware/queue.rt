@@ -10,12 +10,12 @@ ghost use Rattle.middleware.specs.Serving.{Serves, RunsOn};
 use crate::answer::Answer;
 use crate::middleware::Middleware;
 use calls::Call;
-use stub::Calls;
+use banks::Bank;
 
-impl<E: Calls> Middleware<E> {
+impl<B: Bank> Middleware<B> {
     /// Answers any call of a queue.
     pub fn call(&mut self, call: Call) -> Answer
-        ensures law { λ r. ⌜ Serves call (held (E·Calls .seen) (now (self .entry))) (listed r) (held (E·Calls .seen) (now (self .exit))) ⌝ }
+        ensures law { λ r. ⌜ Serves call (held (B·Bank .stores) (now (self .entry))) (listed r) (held (B·Bank .stores) (now (self .exit))) ⌝ }
     {
         match call {
             Call::Begin(k) => Answer::number(self.begin(k)),
@@ -36,7 +36,7 @@ impl<E: Calls> Middleware<E> {
     fn serve(&mut self, queue: &[Call], answers: &mut Vec<Answer>)
         requires none { ⌜ vec-len (now answers) ≡ 0 ⌝ }
         requires room { ⌜ length (now queue) ≤ vec-cap (now answers) ⌝ }
-        ensures law { λ _. ⌜ RunsOn (held (E·Calls .seen) (now (self .entry))) (now (queue .entry)) (past (now (queue .entry)) (vec-items (now (answers .exit))) []) (held (E·Calls .seen) (now (self .exit))) ⌝ }
+        ensures law { λ _. ⌜ RunsOn (held (B·Bank .stores) (now (self .entry))) (now (queue .entry)) (past (now (queue .entry)) (vec-items (now (answers .exit))) []) (held (B·Bank .stores) (now (self .exit))) ⌝ }
     {
         for call in queue {
             answers.push_reserved(self.call(*call));

@@ -3,9 +3,11 @@ use Rattle.calls.specs.declared.call.Call.the-variants.{Begin}
 use Rattle.machine.specs.Beginning.{beginning}
 use Rattle.law.specs.History.Answer.{told}
 use Rattle.middleware.proofs.Served.{serves}
+use Rattle.engine.specs.Seen.{seen}
+use Rattle.middleware.specs.Meaning.{held}
 use Rattle.middleware.proofs.middleware.Middleware.begin.Needs as need
 
 pub returns : need.returns
 returns g c =
-    let before = g .E·Calls .seen (c .args .self .now .engine) in
-    record { law = serves told (Begin (c .args .k)) before _ _ (c .asked .ensures .answer) (g .E·Calls .seen (c .begin .last .self)) (beginning before (c .args .k)) refl (c .begin .ensures .answer) (c .begin .ensures .after) }
+    let before = held (g .B·Bank .stores) (c .args .self .now) in
+    record { law = serves told (Begin (c .args .k)) before _ _ (c .asked .ensures .answer) (seen (g .B·Bank .stores) (c .begin .last .self)) (beginning before (c .args .k)) refl (c .begin .ensures .answer) (c .begin .ensures .after) }

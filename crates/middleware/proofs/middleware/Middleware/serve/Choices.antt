@@ -11,4 +11,4 @@ use Rattle.middleware.proofs.middleware.Middleware.serve.Given as given
 abbrev pub Inv-loop-call : given.InvT-loop-call
 Inv-loop-call g l =
     (vec-len (l .answers) ≡ l .call-index) × (length (l .queue) ≤ vec-cap (l .answers))
-    × RunsOn (held (g .E·Calls .seen) (l .entry .self)) (take (l .call-index) (l .queue)) (past (take (l .call-index) (l .queue)) (vec-items (l .answers)) []) (held (g .E·Calls .seen) (l .self))
+    × RunsOn (held (g .B·Bank .stores) (l .entry .self)) (take (l .call-index) (l .queue)) (past (take (l .call-index) (l .queue)) (vec-items (l .answers)) []) (held (g .B·Bank .stores) (l .self))
