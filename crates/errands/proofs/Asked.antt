@@ -34,6 +34,6 @@ asked-or ms k f d h each none = by (ltb k (length ms)) refl
 -- a store has at most 64 places, and where there is no store there are none
 pub most-places : (ms : List StoreModel) → ((k : ℕ) → k < length ms → Lawful (store-at ms k)) → (k : ℕ) → length (store-at ms k .places) ≤ 64
 most-places ms lawful k = elim (cases-lt k (length ms)) [
-      | inl h ↦ lawful k h .most-places
-      | inr h ↦ let none = ap (λ (m : StoreModel). length (m .places)) (getD-past ms k no-store h) in omega arith
-    ]
+  | inl h ↦ lawful k h .most-places
+  | inr h ↦ let none = ap (λ (m : StoreModel). length (m .places)) (getD-past ms k no-store h) in omega arith
+]

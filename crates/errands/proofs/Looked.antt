@@ -32,11 +32,11 @@ open-or p m = by (ltb p (length (m .places))) refl
 pub any-open-step : (os : List (Option Place)) (p : ℕ) → any-open (drop p os) ≡ isSome (getD os p None) || any-open (drop (p + 1) os)
 unfolding any-open
 any-open-step os p = elim (cases-lt p (length os)) [
-      | inl h ↦ at-drop-more any-open os p None h
-      | inr h ↦
-          let more : length os ≤ p + 1 = omega arith in
-          at-drop-all any-open os p h ∙ sym (λ i. isSome (getD-past os p None h i) || at-drop-all any-open os (p + 1) more i)
-    ]
+  | inl h ↦ at-drop-more any-open os p None h
+  | inr h ↦
+      let more : length os ≤ p + 1 = omega arith in
+      at-drop-all any-open os p h ∙ sym (λ i. isSome (getD-past os p None h i) || at-drop-all any-open os (p + 1) more i)
+]
 
 pub any-open-end : (os : List (Option Place)) (p : ℕ) → length os ≤ p → any-open (drop p os) ≡ false
 unfolding any-open

@@ -10,6 +10,7 @@ use lib.Dec.{leb, ltb, eqb}
 use lib.ListN.{length, getD, drop}
 use Rattle.std.proofs.shelf.Tests.{cases-eq, lt-ltb, le-ltb, le-leb, lt-leb, eq-eqb, ne-eqb, and-from, and-left, and-right, cond-true, cond-false}
 use Rattle.std.proofs.shelf.Lists.{at-drop-more, at-drop-all}
+use Rattle.std.specs.Slices.{found}
 use Rattle.std.specs.declared.option.Option.the-variants.{Some, None}
 use Rattle.ledger.specs.Words.{up-to, count, exactly, whole, lowest, or-else, some-number, tally}
 
@@ -145,6 +146,16 @@ found-some f i n l e h = ap some-number (lowest-found f i n l e h) ∙ some-suc 
 pub found-none : (f : ℕ → Bool) (i n : ℕ) → n ≤ i → lowest f i ≡ 0 → some-number (lowest f n) ≡ None
 found-none f i n l h = ap some-number (lowest-before f i n l h)
 
+lowest-le : (f : ℕ → Bool) (n : ℕ) → lowest f n ≤ n
+unfolding lowest
+lowest-le f zero = omega arith
+lowest-le f (suc n) = either (lowest f n) (f (suc n)) n (lowest-le f n)
+  where
+    either : (r : ℕ) (b : Bool) (n : ℕ) → r ≤ n → or-else r (cond b (suc n) 0) ≤ suc n
+    either zero true n h = omega arith
+    either zero false n h = omega arith
+    either (suc r) b n h = omega arith
+
 -- ---- how many of a list, by those that are left
 
 pub tally-yes : {X : Type 0} (f : X → Bool) (xs : List X) (i : ℕ) (d : X) → i < length xs → f (getD xs i d) ≡ true → tally f (drop i xs) ≡ suc (tally f (drop (i + 1) xs))
@@ -169,3 +180,11 @@ up-to-zero m n e = and-left (ltb 0 n) (leb n m) (le-ltb 0 n (omega arith))
 
 pub up-to-past : (m n : ℕ) → m < n → up-to m n ≡ false
 up-to-past m n h = and-right (ltb 0 n) (leb n m) (lt-leb n m h)
+
+-- a lowest one that there is was given
+pub lowest-given : (f : ℕ → Bool) (n : ℕ) → found (some-number (lowest f n)) (λ m. up-to n m ≡ true)
+lowest-given f n = by (lowest f n) (lowest-le f n)
+  where
+    by : (r : ℕ) → r ≤ n → found (some-number r) (λ m. up-to n m ≡ true)
+    by zero h = tt
+    by (suc r) h = up-to-yes n (suc r) (omega arith) h

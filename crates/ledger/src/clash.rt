@@ -5,7 +5,7 @@ ghost use Rattle.ledger.specs.Sets.{clash};
 use tickets::WriteSet;
 
 /// Whether an earlier write set and a later one clash: whether they share an object.
-pub fn clash(earlier: &WriteSet, later: &WriteSet) -> bool
+pub(crate) fn clash(earlier: &WriteSet, later: &WriteSet) -> bool
     ensures answer { λ r. ⌜ r ≡ clash (pairs (now (earlier .entry))) (pairs (now (later .entry))) ⌝ }
 {
     earlier.shares(later)

@@ -1,12 +1,13 @@
 // What the middleware holds: its transactions and its numbered write sets, with the loops over them.
 pub mod applied;
-pub mod clash;
+mod clash;
 pub mod numbered;
 pub mod progress;
 pub mod transaction;
 pub mod transactions;
 pub mod verdict;
 pub mod write_sets;
+
 pub use applied::Applied;
 pub use numbered::Numbered;
 pub use progress::Progress;

@@ -17,14 +17,14 @@ pub struct Numbered {
 
 impl Numbered {
     /// Whether it clashes with a later write set.
-    pub fn clashes(&self, later: &WriteSet) -> bool
+    pub(crate) fn clashes(&self, later: &WriteSet) -> bool
         ensures answer { λ r. ⌜ r ≡ clashes (pairs (now (later .entry))) (set-of (now (self .entry))) ⌝ }
     {
         clash(&self.set, later)
     }
 
     /// Whether it is not applied at a replica and clashes with a later write set.
-    pub fn holds_back(&self, replica: u8, later: &WriteSet) -> bool
+    pub(crate) fn holds_back(&self, replica: u8, later: &WriteSet) -> bool
         ensures answer { λ r. ⌜ r ≡ holds-back replica (pairs (now (later .entry))) (set-of (now (self .entry))) ⌝ }
     {
         !self.applied.has(replica) && self.clashes(later)

@@ -69,7 +69,7 @@ impl Transaction {
     }
 
     /// Whether it is open or pending, and at home at a replica.
-    pub fn busy_at(&self, replica: u8) -> bool
+    pub(crate) fn busy_at(&self, replica: u8) -> bool
         ensures answer { λ r. ⌜ r ≡ busy-at replica (now (self .entry)) ⌝ }
     {
         if self.home != replica {

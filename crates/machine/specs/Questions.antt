@@ -1,5 +1,6 @@
 -- What the questions answer. They change nothing.
 use Prim.Native.Nat.{ℕ}
+use lib.ListN.{length}
 use Rattle.std.specs.declared.result.Result.{Result}
 use Rattle.std.specs.declared.result.Result.the-variants.{Ok}
 use Rattle.tickets.specs.Boards.{Board}
@@ -26,6 +27,10 @@ set-told b n = if-opened b (set-at b n)
 -- how many numbers are applied at replica k, and whether without holes: 20, 1
 abbrev pub progress-told : Machine → ℕ → Result Progress Reason
 progress-told b k = bind (replica-at b k) (λ h. Ok (progress-at (b .sets) h))
+
+-- how many write sets have numbers: 20
+abbrev pub numbers-told : Machine → Result ℕ Reason
+numbers-told b = if-opened b (Ok (length (b .sets)))
 
 -- the starting board: 20
 abbrev pub start-told : Machine → Result Board Reason

@@ -1,13 +1,11 @@
 // The checks that calls begin with.
 ghost use mathlib.Core.Path.{_≡_};
-ghost use Prim.Native.Nat.{ℕ, _+_, _-_, _<_, _≤_};
-ghost use Rattle.std.specs.Of.Vec.{vec-len};
-ghost use Rattle.std.specs.Vec.{made};
-ghost use Rattle.machine.specs.Machine.{replica-at, transaction-at, taking, object-at, told};
-ghost use Rattle.engine.specs.Seen.{seen};
+ghost use Rattle.machine.specs.Machine.{replica-at, transaction-at, taking, object-at, set-at, told};
+ghost use Rattle.engine.specs.Seen.{seen, set-seen};
 use crate::engine::Engine;
 use banks::Bank;
 use ledger::Event;
+use ledger::Numbered;
 use ledger::Transaction;
 use machine::Reason;
 use tickets::OBJECTS;
@@ -39,21 +37,16 @@ impl<B: Bank> Engine<B> {
     // A transaction that was given: 20, 2.
     pub(crate) fn transaction(&self, t: u32) -> Result<Transaction, Reason>
         ensures answer { λ r. ⌜ r ≡ transaction-at (seen (B·Bank .stores) (now (self .entry))) t ⌝ }
-        ensures within { λ r. ⌜ made r (λ _. (0 < t) × (t ≤ vec-len (now (self .entry) .txns))) ⌝ }
     {
         if !self.opened {
             return Err(Reason::NotOpened);
         }
-        if t == 0 || t as usize > self.txns.len() {
-            return Err(Reason::NoTransaction);
-        }
-        Ok(self.txns[t as usize - 1])
+        self.txns.get(t).ok_or(Reason::NoTransaction)
     }
 
     // A transaction that takes an event: 20, 2, 29.
     pub(crate) fn taking(&self, t: u32, event: Event) -> Result<Transaction, Reason>
         ensures answer { λ r. ⌜ r ≡ taking (seen (B·Bank .stores) (now (self .entry))) t event ⌝ }
-        ensures within { λ r. ⌜ made r (λ _. (0 < t) × (t ≤ vec-len (now (self .entry) .txns))) ⌝ }
     {
         let x = self.transaction(t)?;
         let mut asked = x;
@@ -63,13 +56,17 @@ impl<B: Bank> Engine<B> {
         Ok(x)
     }
 
+    // A write set that has a number: 4.
+    pub(crate) fn numbered(&self, n: u32) -> Result<Numbered, Reason>
+        ensures answer { λ r. ⌜ set-seen r ≡ set-at (seen (B·Bank .stores) (now (self .entry))) n ⌝ }
+    {
+        self.sets.get(n).ok_or(Reason::NoWriteSet)
+    }
+
     // Tells a transaction of an event, which it takes where its state does.
     pub(crate) fn tell(&mut self, t: u32, event: Event)
         ensures after { λ _. ⌜ seen (B·Bank .stores) (now (self .exit)) ≡ told (seen (B·Bank .stores) (now (self .entry))) t event ⌝ }
     {
-        let i = (t as usize).saturating_sub(1);
-        if i < self.txns.len() {
-            self.txns[i].take(event);
-        }
+        self.txns.tell(t, event);
     }
 }

@@ -24,7 +24,7 @@ impl Applied {
     }
 
     /// Marks it as applied at a replica.
-    pub fn mark(&mut self, replica: u8)
+    pub(crate) fn mark(&mut self, replica: u8)
         ensures after { λ _. ⌜ marks (now (self .exit)) ≡ set (marks (now (self .entry))) replica true ⌝ }
     {
         if (replica as usize) < REPLICAS {

@@ -54,6 +54,17 @@ impl Transactions {
         Some(self.items[t as usize - 1])
     }
 
+    /// The place of a transaction at its home; 0 where the number was not given.
+    pub fn place(&self, t: u32) -> usize
+        ensures answer { λ r. ⌜ r ≡ nth-transaction (txns-of (now (self .entry))) t .place ⌝ }
+    {
+        let i = (t as usize).saturating_sub(1);
+        if i >= self.items.len() {
+            return 0;
+        }
+        self.items[i].place
+    }
+
     /// Gives a transaction the next number; none where all are given.
     pub fn add(&mut self, x: Transaction) -> Option<u32>
         ensures answer { λ r. ⌜ r ≡ cond (ltb (length (txns-of (now (self .entry)))) 512) (Some (length (txns-of (now (self .entry))) + 1)) None ⌝ }

@@ -1,7 +1,11 @@
 // What is asked of all numbered write sets.
 ghost use mathlib.Core.Path.{_≡_};
+ghost use mathlib.Core.Bool.{true};
 ghost use Prim.Native.Nat.{ℕ, _+_, _-_, _<_, _≤_};
+ghost use lib.ListN.{length};
+ghost use Rattle.std.specs.Slices.{found};
 ghost use Rattle.tickets.specs.Meaning.{pairs};
+ghost use Rattle.ledger.specs.Words.{up-to};
 ghost use Rattle.ledger.specs.Sets.{sets-of, progress-at, lowest-clash, lowest-holding, lowest-unapplied};
 use crate::progress::Progress;
 use crate::write_sets::WriteSets;
@@ -37,6 +41,7 @@ impl WriteSets {
     /// The lowest number that is not applied at a replica.
     pub fn lowest_unapplied(&self, replica: u8) -> Option<u16>
         ensures answer { λ r. ⌜ r ≡ lowest-unapplied (sets-of (now (self .entry))) replica ⌝ }
+        ensures given { λ r. ⌜ found r (λ n. up-to (length (sets-of (now (self .entry)))) n ≡ true) ⌝ }
     {
         lowest_unapplied_among(&self.items, replica)
     }

@@ -19,8 +19,8 @@ loop-object-again g c =
     let here : at < length start = omega (arith, c .loop-object .inv .0) in (
       length-set start at _ ∙ c .loop-object .inv .0,
       below-more _ _
-      (λ k h. let ne : k ≢ at = omega arith in getD-set-other start at k _ 0 ne ∙ c .loop-object .inv .1 k h)
-      (getD-set-same start at _ 0 here ∙ c .value-at .ensures .answer),
+          (λ k h. let ne : k ≢ at = omega arith in getD-set-other start at k _ 0 ne ∙ c .loop-object .inv .1 k h)
+          (getD-set-same start at _ 0 here ∙ c .value-at .ensures .answer),
     )
 
 pub returns : need.returns
