@@ -77,7 +77,7 @@ module _ (b : Machine) (fit : Fit b) (q : Coupled (world-of b)) (eight : length 
       by-replica b fit eight quiet k numbered (λ h. look (applicable b h n) b (playing b h)) (λ l.
       subst (λ o. Matches numbered (came quiet o)) (sym (look-bind (set-at b n) (free-at b k n) b (playing b k)))
       (by-check b fit quiet (up-to (length (w .sets)) n) (up-to (length (b .sets)) n) 4 NoWriteSet (Ok x) law-applies (λ y. look (free-at b k n y) b (playing b k))
-          (ap (λ i. up-to i n) (as-many-sets (b .sets))) refl (λ e.
+      (ap (λ i. up-to i n) (as-many-sets (b .sets))) refl (λ e.
       let a = up-to-bounds (length (w .sets)) n e in applies l (a .0) (omega (arith, a .1, as-many-sets (b .sets))))))
     where
       numbered : steps.Result

@@ -115,9 +115,9 @@ module _ (b : Machine) (fit : Fit b) (eight : length (b .stores) ≤ 8) where
       (by-check b fit law.told (whole (w .applied k) (length (w .sets))) (whole (w .applied k) (length (w .sets))) 26 Holes (Ok (seen k)) busy (λ s. look (room k s) b ends) refl refl (λ _.
       subst (λ o. Matches busy (came law.told o)) (sym (look-bind (room-at b k) (λ _. Ok (starts k l)) b ends))
       (by-check b fit law.told (ltb (working k (w .entries)) 15) (ltb (busy-count (b .txns) k) 15) 27 Busy (cond (ltb (length (b .txns)) 512) (Ok tt) (Err TransactionsGiven)) given (λ _. ends (starts k l))
-          (ap (λ n. ltb n 15) (working-is k)) refl (λ _.
+      (ap (λ n. ltb n 15) (working-is k)) refl (λ _.
       by-check b fit law.told (ltb (length (w .entries)) 512) (ltb (length (b .txns)) 512) 28 TransactionsGiven (Ok tt) (law-begins k) (λ _. ends (starts k l))
-          (ap (λ n. ltb n 512) (as-many-entries b fit)) refl (λ _. begins k l))))))))
+      (ap (λ n. ltb n 512) (as-many-entries b fit)) refl (λ _. begins k l))))))))
     where
       -- the machine's checks
       room : ℕ → ℕ → Result Transaction Reason

@@ -74,7 +74,7 @@ module _ (b : Machine) (s : Sound b) (yes : b .opened ≡ true) where
       let f = every-world-call first-of-sixteen sixteen-picks c w q in
       let r = matches c (ap is-fault (f .answer) ∙ no-fault c (world-plain w)) in
       let to : board-step c (plain-of b) ≡ (step c (world-plain w) .0, PlainBoard.opened (step c (world-plain w) .1)) =
-        ap (λ (m : Middle). board-step c (middle.plain-of m)) (opened-is b yes) in
+      ap (λ (m : Middle). board-step c (middle.plain-of m)) (opened-is b yes) in
       let after : middle-of (machine-step c b .1) ≡ Middle.opened (world-step first-of-sixteen c w .1) = opened-is (machine-step c b .1) (r .fit .opened) ∙ ap Middle.opened (r .world) in
       record {
         answer = r .answer ∙ (f .answer ∙ sym (ap (λ (o : Answer × PlainBoard). o .0) to));

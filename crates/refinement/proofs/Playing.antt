@@ -94,7 +94,7 @@ module _ (b : Machine) (fit : Fit b) (q : Coupled (world-of b)) (eight : length 
       let home : numbered (w .sets) n .home ≡ k = ap (λ (z : Numbered). z .home) x-is ∙ h in
       let p = f .waits (ap (λ i. w .applied i n) home ∙ new) in
       let is : transaction-of (w .bank) (entry-of y) ≡ record { home = numbered (w .sets) n .home; s = numbered (w .sets) n .s; state = plain.TransactionState.pending n } =
-        ap (transaction-of (w .bank)) (sym (entry-is b fit t)) ∙ (sym (transaction-is w t) ∙ (ap (λ (z : Numbered). plain.transaction (world-plain w) (z .who)) (sym x-is) ∙ p .is)) in
+      ap (transaction-of (w .bank)) (sym (entry-is b fit t)) ∙ (sym (transaction-is w t) ∙ (ap (λ (z : Numbered). plain.transaction (world-plain w) (z .who)) (sym x-is) ∙ p .is)) in
       is-pending (y .state) (place (store-at (w .bank) (y .home)) (y .place)) n (ap (λ (z : plain.Transaction). z .state) is)
 
   abbrev marked-sets : List SetModel
