@@ -72,8 +72,12 @@ module _ (b : Machine) (k : ℕ) where
       go true (Err x) e = absurd (let z : _≡_ {A = ℕ} 0 1 = cc in omega arith)
       go false a e = absurd (let z : _≡_ {A = ℕ} 0 1 = cc in omega arith)
 
+  -- the transaction gets the next number
+  abbrev numbered : Transaction → Unit {0} → Machine → Came ℕ
+  numbered x u c = done (length (c .txns) + 1) (with-txns c (c .txns ++ x ∷ []))
+
   abbrev ends : Transaction → Came ℕ
-  ends x = step (through b (begin-at (x .home) (x .place) (b .stores))) (λ _ c. done (length (c .txns) + 1) (with-txns c (c .txns ++ x ∷ [])))
+  ends x = step (through b (begin-at (x .home) (x .place) (b .stores))) (numbered x)
 
   was-shut : (t : ℕ) (r : Result Transaction Reason) → starting b k ≡ r → look r b ends .answer ≡ Ok t → PlaceWasShut b k t (look r b ends .after)
   was-shut t (Err x) i e = absurd (let z : _≡_ {A = ℕ} 0 1 = cc in omega arith)
@@ -85,7 +89,8 @@ module _ (b : Machine) (k : ℕ) where
       after : Machine
       after = with-stores b (changed (b .stores) (x .home) (λ m. begin-after m (x .place)))
 
-      begun : (a : Result (Unit {0}) Reason) → raised (asked (b .stores) (x .home) (λ m. begin-answer m (x .place))) ≡ a → go-on a after (λ _ c. done (length (c .txns) + 1) (with-txns c (c .txns ++ x ∷ []))) .answer ≡ Ok t → PlaceWasShut b k t (go-on a after (λ _ c. done (length (c .txns) + 1) (with-txns c (c .txns ++ x ∷ []))) .after)
+      begun : (a : Result (Unit {0}) Reason) → raised (asked (b .stores) (x .home) (λ m. begin-answer m (x .place))) ≡ a →
+          go-on a after (numbered x) .answer ≡ Ok t → PlaceWasShut b k t (go-on a after (numbered x) .after)
       begun (Err y) j e = absurd (let z : _≡_ {A = ℕ} 0 1 = cc in omega arith)
       begun (Ok u) j e =
           let n : length (b .txns) + 1 ≡ t = cc in

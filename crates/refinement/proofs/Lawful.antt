@@ -1,9 +1,9 @@
 -- Every store call keeps what every store keeps.
-use mathlib.Core.Path.{_≡_, refl, sym, _∙_}
-use mathlib.Core.Logic.{_⊎_, inl, inr, ⊎-elim}
+use mathlib.Core.Path.{_≡_, refl, ap, _∙_}
+use mathlib.Core.Logic.{⊎-elim}
 use mathlib.Core.Bool.{Bool, true, false, cond, _||_}
 use mathlib.Core.List.{List, [], _∷_}
-use Prim.Native.Nat.{ℕ, zero, suc, _+_, _≤_, _<_}
+use Prim.Native.Nat.{ℕ, zero, suc, _≤_, _<_}
 use native.Mathlib.Omega.{arith}
 use lib.Dec.{eqb, ltb}
 use lib.ListN.{length, getD, set, length-set, length-map, List·getD-map}
@@ -12,67 +12,53 @@ use Rattle.std.specs.declared.option.Option.{Option}
 use Rattle.std.specs.declared.option.Option.the-variants.{Some, None}
 use Rattle.std.specs.declared.result.Result.{Result}
 use Rattle.std.specs.declared.result.Result.the-variants.{Ok, Err}
-use Rattle.std.proofs.shelf.Tests.{cases-eq, ltb-true, eq-eqb, ne-eqb, eqb-false, or-cases}
+use Rattle.std.proofs.shelf.Tests.{ltb-true, ne-eqb, eqb-false, or-cases}
 use Rattle.stores.specs.declared.fault.StoreFault.{StoreFault}
 use Rattle.stores.specs.declared.fault.StoreFault.the-variants.{NoPlace, NoObject, NinthObject}
-use Rattle.stores.specs.Model.{StoreModel, Place, Lawful, OwnLawful, with-write, with-own, no-writes, written, own-count, count-below, fresh, with-place, held, vacant, leaves, bind, write-at, overtaken-by, spread, landed, clashes, begin-after, write-after, commit-after, commit-left, abort-after}
+use Rattle.stores.specs.Model.{StoreModel, Place, Lawful, OwnLawful, with-own, no-writes, written, own-count, clashes, fresh, with-place, held, vacant}
+use Rattle.stores.specs.Model.{leaves, bind, write-at, overtaken-by, spread, landed, commit-left, begin-after, write-after, commit-after, abort-after}
 use Rattle.stores.proofs.Steps.{length-played}
+use Rattle.errands.proofs.Told.{own-rises}
+use Rattle.law.specs.Writes.{put}
+use Rattle.law.proofs.Writes.{put-length, put-again}
+use Rattle.refinement.specs.Stores.{all-pairs}
+use Rattle.refinement.proofs.Own.{pairs-of-none, lookup-below, pairs-count, pairs-written}
 
--- ---- how many objects are written
-
-same-count : (f g : ℕ → Bool) (n : ℕ) → ((i : ℕ) → i < n → f i ≡ g i) → count-below f n ≡ count-below g n
-unfolding count-below
-same-count f g zero h = refl
-same-count f g (suc n) h = rw (h n (omega arith), same-count f g n (λ i l. h i (omega arith)))
-
-module _ (own : ℕ → Option ℕ) (j v : ℕ) where
-  abbrev before : ℕ → Bool
-  before i = isSome (own i)
-
-  abbrev after : ℕ → Bool
-  after i = isSome (with-write own j v i)
-
-  other-object : (i : ℕ) → (i ≡ j → ⊥) → after i ≡ before i
-  other-object i n = rw (ne-eqb i j n)
-
-  -- a write to an object that is written already
-  count-again : before j ≡ true → (n : ℕ) → count-below after n ≡ count-below before n
-  count-again h n = same-count after before n (λ i l. ⊎-elim (λ (e : i ≡ j). rw (e, eq-eqb j j refl) (sym h)) (other-object i) (cases-eq i j))
-
-  -- a write adds one object at most
-  count-more : (n : ℕ) → count-below after n ≤ count-below before n + 1
-  unfolding count-below
-  count-more zero = omega arith
-  count-more (suc n) = go (count-more n) (cases-eq n j)
-    where
-      low : (b : Bool) → cond b 1 0 ≤ 1
-      low true = omega arith
-      low false = omega arith
-
-      go : count-below after n ≤ count-below before n + 1 → (n ≡ j) ⊎ (n ≡ j → ⊥) → cond (after n) 1 0 + count-below after n ≤ cond (before n) 1 0 + count-below before n + 1
-      go ih (inl e) = let s = same-count after before n (λ i l. other-object i (omega arith)) in omega (arith, low (after n))
-      go ih (inr e) = rw (other-object n e) (omega arith)
-
-no-count : (n : ℕ) → count-below (λ i. isSome (no-writes i)) n ≡ 0
-unfolding count-below
-no-count zero = refl
-no-count (suc n) = omega (arith, no-count n)
-
--- ---- places
+-- ---- one place
 
 fresh-lawful : (board : List ℕ) → OwnLawful (Some (fresh board))
-fresh-lawful board = (omega (arith, no-count 128), λ j l. refl)
+fresh-lawful board = (omega (arith, pairs-count no-writes, ap length pairs-of-none), λ j l. refl)
 
-write-lawful-at : (x : Place) (j v : ℕ) → j < 128 → (written x j || ltb (own-count x) 8) ≡ true → OwnLawful (Some x) → OwnLawful (Some (with-own x j v))
-write-lawful-at x j v l r h = (⊎-elim (λ (e : written x j ≡ true). omega (arith, count-again (x .own) j v e 128, h .0)) (λ (e : ltb (own-count x) 8 ≡ true). omega (arith, count-more (x .own) j v 128, ltb-true (own-count x) 8 e)) (or-cases (written x j) (ltb (own-count x) 8) r), λ i m. rw (ne-eqb i j (omega arith)) (h .1 i m))
+-- a write where there is room for it
+module _ (x : Place) (j v : ℕ) (l : j < 128) (h : OwnLawful (Some x)) where
+  own-count-after : own-count (with-own x j v) ≡ length (put j v (all-pairs (x .own)))
+  own-count-after = rw (← (pairs-count (with-own x j v .own))) (ap length (pairs-written (x .own) j v l))
 
--- a place that is changed
+  few-again : written x j ≡ true → own-count (with-own x j v) ≤ 8
+  few-again e =
+      let same = put-again 0 j v (all-pairs (x .own)) (own-rises (x .own) 0 0 128 (omega arith) (omega arith)) (ap isSome (lookup-below (x .own) j l) ∙ e) in
+      omega (arith, own-count-after, pairs-count (x .own), h .0)
+
+  few-more : ltb (own-count x) 8 ≡ true → own-count (with-own x j v) ≤ 8
+  few-more e = omega (arith, own-count-after, put-length j v (all-pairs (x .own)), pairs-count (x .own), ltb-true (own-count x) 8 e)
+
+  write-lawful-at : (written x j || ltb (own-count x) 8) ≡ true → OwnLawful (Some (with-own x j v))
+  write-lawful-at r = (⊎-elim few-again few-more (or-cases (written x j) (ltb (own-count x) 8) r), λ i m. rw (ne-eqb i j (omega arith)) (h .1 i m))
+
+-- what is overtaken does not touch the own writes
+overtaken-lawful : (w : ℕ → Bool) (o : Option Place) → OwnLawful o → OwnLawful (overtaken-by w o)
+overtaken-lawful w None h = h
+overtaken-lawful w (Some x) h = h
+
+-- one place changed among others
 lawful-place : (l : List (Option Place)) (i : ℕ) (o : Option Place) → OwnLawful o → ((p : ℕ) → OwnLawful (getD l p None)) → (p : ℕ) → OwnLawful (getD (set l i o) p None)
 lawful-place [] i o h f p = f p
 lawful-place (x ∷ l) zero o h f zero = h
 lawful-place (x ∷ l) zero o h f (suc p) = f (suc p)
 lawful-place (x ∷ l) (suc i) o h f zero = f 0
 lawful-place (x ∷ l) (suc i) o h f (suc p) = lawful-place l i o h (λ q. f (suc q)) p
+
+-- ---- the calls
 
 module _ (m : StoreModel) (ok : Lawful m) (p : ℕ) where
   with-lawful : (o : Option Place) → OwnLawful o → Lawful (with-place m p o)
@@ -104,25 +90,24 @@ module _ (m : StoreModel) (ok : Lawful m) (p : ℕ) where
   pub write-lawful : (j v : ℕ) → Lawful (write-after m p j v)
   write-lawful j v = go (ltb p (length (m .places))) (getD (m .places) p None) (ok .own p)
     where
-      roomy : (x : Place) → OwnLawful (Some x) → j < 128 → (d : Bool) → (written x j || ltb (own-count x) 8) ≡ d → Lawful (leaves (cond d (Ok (with-own x j v)) (Err NinthObject)) (λ pl. with-place m p (Some pl)) m)
-      roomy x h l true e = with-lawful (Some (with-own x j v)) (write-lawful-at x j v l e h)
-      roomy x h l false e = ok
+      left : Result Place StoreFault → StoreModel
+      left r = leaves r (λ pl. with-place m p (Some pl)) m
 
-      at : (x : Place) → OwnLawful (Some x) → (c : Bool) → ltb j 128 ≡ c → Lawful (leaves (cond c (cond (written x j || ltb (own-count x) 8) (Ok (with-own x j v)) (Err NinthObject)) (Err NoObject)) (λ pl. with-place m p (Some pl)) m)
-      at x h true e = roomy x h (ltb-true j 128 e) (written x j || ltb (own-count x) 8) refl
+      roomy : Place → Bool
+      roomy x = written x j || ltb (own-count x) 8
+
+      in-room : (x : Place) → OwnLawful (Some x) → j < 128 → (d : Bool) → roomy x ≡ d → Lawful (left (cond d (Ok (with-own x j v)) (Err NinthObject)))
+      in-room x h l true e = with-lawful (Some (with-own x j v)) (write-lawful-at x j v l h e)
+      in-room x h l false e = ok
+
+      at : (x : Place) → OwnLawful (Some x) → (c : Bool) → ltb j 128 ≡ c → Lawful (left (cond c (cond (roomy x) (Ok (with-own x j v)) (Err NinthObject)) (Err NoObject)))
+      at x h true e = in-room x h (ltb-true j 128 e) (roomy x) refl
       at x h false e = ok
 
-      go : (c : Bool) (o : Option Place) → OwnLawful o → Lawful (leaves (bind (cond c (held o) (Err NoPlace)) (write-at j v)) (λ pl. with-place m p (Some pl)) m)
+      go : (c : Bool) (o : Option Place) → OwnLawful o → Lawful (left (bind (cond c (held o) (Err NoPlace)) (write-at j v)))
       go true None h = ok
       go true (Some x) h = at x h (ltb j 128) refl
       go false o h = ok
-
--- ---- commit
-
--- what is overtaken does not touch the own writes
-overtaken-lawful : (w : ℕ → Bool) (o : Option Place) → OwnLawful o → OwnLawful (overtaken-by w o)
-overtaken-lawful w None h = h
-overtaken-lawful w (Some x) h = h
 
 spread-lawful : (m : StoreModel) → Lawful m → (own : ℕ → Option ℕ) → (m .commits ≡ m .most → ⊥) → Lawful (spread m own)
 spread-lawful m ok own room =

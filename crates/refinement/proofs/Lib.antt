@@ -14,7 +14,8 @@ pub mod Playing
 pub mod Applying
 pub mod Draining
 pub mod Questions
-pub mod Opening
 pub mod Calls
+pub mod Opening
+pub mod Opened
 pub mod Begun
 pub mod Queues

@@ -3,10 +3,8 @@ use mathlib.Core.Path.{_≡_, refl, ap, _∙_}
 use mathlib.Core.Bool.{Bool, cond}
 use mathlib.Core.List.{List, [], _∷_, map}
 use Prim.Native.Nat.{ℕ, zero, suc}
-use Rattle.tickets.specs.WriteSets.{Pairs, shares}
 use Rattle.ledger.specs.Words as words
-use Rattle.law.specs.Numbers.{count, exactly, whole, lowest, tally}
-use Rattle.law.specs.Clashes.{clash}
+use Rattle.law.specs.Numbers.{count, exactly, whole, or-else, lowest, tally}
 
 pub same-count : (f g : ℕ → Bool) (n : ℕ) → ((i : ℕ) → f (suc i) ≡ g (suc i)) → words.count f n ≡ count g n
 unfolding words.count
@@ -26,7 +24,7 @@ unfolding words.lowest
 same-lowest f g zero h = refl
 same-lowest f g (suc n) h = rw (h n, same-lowest f g n h) (both (lowest g n) (cond (g (suc n)) (suc n) 0))
   where
-    both : (a c : ℕ) → words.or-else a c ≡ Rattle.law.specs.Numbers.or-else a c
+    both : (a c : ℕ) → words.or-else a c ≡ or-else a c
     both zero c = refl
     both (suc a) c = refl
 
@@ -34,7 +32,3 @@ pub same-tally : {X Y : Type 0} (h : X → Y) (f : X → Bool) (g : Y → Bool) 
 unfolding words.tally
 same-tally h f g e [] = refl
 same-tally h f g e (x ∷ l) = rw (e x, same-tally h f g e l)
-
-pub same-clash : (ps qs : Pairs) → shares ps qs ≡ clash ps qs
-same-clash [] qs = refl
-same-clash ((i, v) ∷ ps) qs = rw (same-clash ps qs)

@@ -24,7 +24,7 @@ use Rattle.machine.specs.Machine.{bind}
 use Rattle.machine.specs.Opening as machine
 use Rattle.machine.specs.Opening.{copy-fits, copies-fit, starting-board, may-open}
 use Rattle.law.specs.History as law
-use Rattle.law.specs.History.{accepted}
+use Rattle.law.specs.History.{Answer, accepted}
 use Rattle.law.specs.Numbers.{lowest, or-else}
 use Rattle.law.specs.Store.{Store, open-count}
 use Rattle.law.specs.Opening.{start-of, is-used, too-high, unlike, first-object, unless-found, open-from, opening}
@@ -49,17 +49,24 @@ if-passes f j = cond (f j) (Some j) None
 asked-last : (f : ℕ → Bool) (j n : ℕ) → copies.first-object f j (suc n) ≡ or-some (copies.first-object f j n) (if-passes f (j + n))
 unfolding copies.first-object
 asked-last f j zero = let e : j ≡ j + 0 = omega arith in ap (if-passes f) e
-asked-last f j (suc n) = go (f j) (asked-last f (j + 1) n ∙ ap (λ i. or-some (copies.first-object f (j + 1) n) (if-passes f i)) (omega arith))
+asked-last f j (suc n) = go (f j) (asked-last f (j + 1) n ∙ ap (λ i. or-some before (if-passes f i)) (omega arith))
   where
-    go : (c : Bool) → copies.first-object f (j + 1) (suc n) ≡ or-some (copies.first-object f (j + 1) n) (if-passes f (j + suc n)) → cond c (Some j) (copies.first-object f (j + 1) (suc n)) ≡ or-some (cond c (Some j) (copies.first-object f (j + 1) n)) (if-passes f (j + suc n))
+    before : Option ℕ
+    before = copies.first-object f (j + 1) n
+
+    go : (c : Bool) → copies.first-object f (j + 1) (suc n) ≡ or-some before (if-passes f (j + suc n)) →
+        cond c (Some j) (copies.first-object f (j + 1) (suc n)) ≡ or-some (cond c (Some j) before) (if-passes f (j + suc n))
     go true e = refl
     go false e = e
 
 first-is : (f : ℕ → Bool) (n : ℕ) → copies.first-object f 0 n ≡ below (lowest (λ i. f (i - 1)) n)
 unfolding copies.first-object
 first-is f zero = refl
-first-is f (suc n) = asked-last f 0 n ∙ (ap (λ o. or-some o (if-passes f (0 + n))) (first-is f n) ∙ (ap (λ i. or-some (below (lowest (λ i. f (i - 1)) n)) (if-passes f i)) same ∙ go (lowest (λ i. f (i - 1)) n) (f (suc n - 1))))
+first-is f (suc n) = asked-last f 0 n ∙ (ap (λ o. or-some o (if-passes f (0 + n))) (first-is f n) ∙ (ap (λ i. or-some (below low) (if-passes f i)) same ∙ go low (f (suc n - 1))))
   where
+    low : ℕ
+    low = lowest (λ i. f (i - 1)) n
+
     same : 0 + n ≡ suc n - 1
     same = omega arith
 
@@ -92,9 +99,18 @@ used-is m = swap (any-open (m .places)) (ltb 0 (m .commits)) ∙ ap (λ c. ltb 0
 copies-are : (start : Board) (k : ℕ) (ms : List StoreModel) → answered quiet (copies-fit start k ms) ≡ open-from start k (law-bank ms)
 unfolding copies-fit copy-fits open-from
 copies-are start k [] = refl
-copies-are start k (m ∷ ms) = rw (used-is m, first-object-is (above-top (m .board)), first-object-is (copies.unlike start (m .board))) (go (is-used (law-store m)) (first-object (too-high (m .board))) (first-object (unlike start (m .board))) (copies-are start (suc k) ms))
+copies-are start k (m ∷ ms) =
+    rw (used-is m, first-object-is (above-top (m .board)), first-object-is (copies.unlike start (m .board)))
+    (go (is-used (law-store m)) (first-object (too-high (m .board))) (first-object (unlike start (m .board))) (copies-are start (suc k) ms))
   where
-    go : (c : Bool) (i j : ℕ) → answered quiet (copies-fit start (suc k) ms) ≡ open-from start (suc k) (law-bank ms) → answered quiet (bind (cond c (Err (ReplicaUsed k)) (machine.unless-found (below i) (ReplicaAboveTop k) (machine.unless-found (below j) (ReplicaUnlike k) (Ok tt)))) (λ _. copies-fit start (suc k) ms)) ≡ cond c (law.refused 11 (k ∷ [])) (unless-found i 12 k (unless-found j 13 k (open-from start (suc k) (law-bank ms))))
+    others : Answer
+    others = open-from start (suc k) (law-bank ms)
+
+    fits : Bool → ℕ → ℕ → Result (Unit {0}) Reason
+    fits c i j = cond c (Err (ReplicaUsed k)) (machine.unless-found (below i) (ReplicaAboveTop k) (machine.unless-found (below j) (ReplicaUnlike k) (Ok tt)))
+
+    go : (c : Bool) (i j : ℕ) → answered quiet (copies-fit start (suc k) ms) ≡ others →
+        answered quiet (bind (fits c i j) (λ _. copies-fit start (suc k) ms)) ≡ cond c (law.refused 11 (k ∷ [])) (unless-found i 12 k (unless-found j 13 k others))
     go true i j e = refl
     go false zero zero e = e
     go false zero (suc j) e = refl
@@ -123,9 +139,12 @@ may-open-is ms = go (cases-lt 8 (length ms))
     bank : List Store
     bank = law-bank ms
 
+    checked : (r : Result (Unit {0}) Reason) → copies-fit (starting-board ms) 0 ms ≡ r → open-from (start-of bank) 0 bank ≡ answered quiet r
+    checked r e = ap (λ (s : Board). open-from s 0 bank) (start-is ms) ∙ (sym (copies-are (starting-board ms) 0 ms) ∙ ap (answered quiet) e)
+
     few : leb (told-count ms) 8 ≡ true → leb (length bank) 8 ≡ true → (r : Result (Unit {0}) Reason) → copies-fit (starting-board ms) 0 ms ≡ r → MayOpen ms
-    few a b (Ok u) e = accepts (rw (a, e)) (rw b (ap (λ (s : Board). open-from s 0 bank) (start-is ms) ∙ (sym (copies-are (starting-board ms) 0 ms) ∙ ap (answered quiet) e)))
-    few a b (Err x) e = refuses x (rw (a, e)) (rw b (ap (λ (s : Board). open-from s 0 bank) (start-is ms) ∙ (sym (copies-are (starting-board ms) 0 ms) ∙ ap (answered quiet) e))) (not-accepted x)
+    few a b (Ok u) e = accepts (rw (a, e)) (rw b (checked (Ok u) e))
+    few a b (Err x) e = refuses x (rw (a, e)) (rw b (checked (Err x) e)) (not-accepted x)
 
     go : (8 < length ms) ⊎ (length ms ≤ 8) → MayOpen ms
     go (inl h) = refuses TooManyReplicas (rw (lt-leb (told-count ms) 8 (omega arith))) (rw (lt-leb (length bank) 8 (omega (arith, as-many-stores ms)))) refl

@@ -9,16 +9,18 @@ use lib.Dec.{eqb, ltb}
 use lib.ListN.{length, getD, set, replicate, length-map, List·getD-map}
 use Rattle.std.proofs.shelf.Lists.{map-set, set-getD, getD-set-same, getD-set-other, getD-append-left, getD-push, getD-past, length-push, getD-replicate, length-set}
 use Rattle.std.proofs.shelf.Tests.{cases-eq, cases-lt, eq-eqb, ne-eqb}
-use Rattle.tickets.specs.WriteSets.{Pairs}
+use Rattle.tickets.specs.WriteSets.{Pairs, shares}
 use Rattle.ledger.specs.Words as words
 use Rattle.ledger.specs.Sets.{SetModel, no-set, nth-set, is-applied, applied-at, marked-set, progress-at, lowest-clash, lowest-holding, lowest-unapplied}
 use Rattle.law.specs.Numbers.{count, whole, lowest}
+use Rattle.law.specs.Clashes.{clash}
 use Rattle.law.specs.Plain.{Numbered, numbered, pairs}
 use Rattle.law.specs.Transactions.{clashes}
 use Rattle.law.specs.Applications.{marked, lacks, holds}
+use Rattle.law.proofs.Clashes.{clash-is-sharing}
 use Rattle.refinement.specs.Worlds.{numbered-of, applied-of}
 use Rattle.refinement.specs.Sound.{EightMarks}
-use Rattle.refinement.proofs.Numbers.{same-count, same-whole, same-lowest, same-clash}
+use Rattle.refinement.proofs.Numbers.{same-count, same-whole, same-lowest}
 
 module _ (us : List SetModel) where
   abbrev pub law-sets : List Numbered
@@ -44,20 +46,29 @@ module _ (us : List SetModel) where
       let b = same-whole (applied-at us k) (applied-of us k) (length us) (applied-next k) ∙ ap (whole (applied-of us k)) (sym as-many-sets) in
       λ i. record { applied = a i; whole = b i }
 
+  -- the machine's clash is the law's
+  same-clash : (n : ℕ) (u : Pairs) → shares (nth-set us n .pairs) u ≡ clash (pairs law-sets n) u
+  same-clash n u = sym (clash-is-sharing (nth-set us n .pairs) u) ∙ ap (λ (y : Numbered). clash (y .pairs) u) (sym (set-is n))
+
   pub lowest-clash-is : (s : ℕ) (u : Pairs) → lowest-clash us s u ≡ words.some-number (lowest (clashes law-sets s u) (length law-sets))
   unfolding lowest-clash
-  lowest-clash-is s u = ap words.some-number (same-lowest _ (clashes law-sets s u) (length us) (λ i. ap (λ b. ltb s (suc i) && b) (same-clash (nth-set us (suc i) .pairs) u ∙ ap (λ (y : Numbered). Rattle.law.specs.Clashes.clash (y .pairs) u) (sym (set-is (suc i))))) ∙ ap (lowest (clashes law-sets s u)) (sym as-many-sets))
+  lowest-clash-is s u =
+      ap words.some-number
+      (same-lowest _ (clashes law-sets s u) (length us) (λ i. ap (λ b. ltb s (suc i) && b) (same-clash (suc i) u)) ∙ ap (lowest (clashes law-sets s u)) (sym as-many-sets))
 
   pub lowest-holding-is : (k n last : ℕ) → lowest-holding us k last (nth-set us n .pairs) ≡ words.some-number (lowest (holds (applied-of us k) law-sets n) last)
   unfolding lowest-holding
-  lowest-holding-is k n last = ap words.some-number (same-lowest _ (holds (applied-of us k) law-sets n) last (λ i. λ o. (not (applied-next k i o)) && (same i o)))
-    where
-      same : (i : ℕ) → Rattle.ledger.specs.Sets.clash (nth-set us (suc i) .pairs) (nth-set us n .pairs) ≡ Rattle.law.specs.Clashes.clash (pairs law-sets (suc i)) (pairs law-sets n)
-      same i = same-clash (nth-set us (suc i) .pairs) (nth-set us n .pairs) ∙ (λ o. Rattle.law.specs.Clashes.clash (sym (set-is (suc i)) o .pairs) (sym (set-is n) o .pairs))
+  lowest-holding-is k n last =
+      ap words.some-number
+      (same-lowest _ (holds (applied-of us k) law-sets n) last (λ i.
+      let m = same-clash (suc i) (nth-set us n .pairs) ∙ ap (λ (y : Numbered). clash (pairs law-sets (suc i)) (y .pairs)) (sym (set-is n)) in
+      λ o. not (applied-next k i o) && m o))
 
   pub lowest-unapplied-is : (k : ℕ) → lowest-unapplied us k ≡ words.some-number (lowest (lacks (applied-of us k)) (length law-sets))
   unfolding lowest-unapplied
-  lowest-unapplied-is k = ap words.some-number (same-lowest _ (lacks (applied-of us k)) (length us) (λ i. ap not (applied-next k i)) ∙ ap (lowest (lacks (applied-of us k))) (sym as-many-sets))
+  lowest-unapplied-is k =
+      ap words.some-number
+      (same-lowest _ (lacks (applied-of us k)) (length us) (λ i. ap not (applied-next k i)) ∙ ap (lowest (lacks (applied-of us k))) (sym as-many-sets))
 
 -- ---- one more mark
 

@@ -9,7 +9,7 @@ use Rattle.stores.specs.Model.{Lawful, StoreModel}
 use Rattle.banks.specs.Model.{store-at}
 use Rattle.ledger.specs.Sets.{SetModel, no-set}
 use Rattle.machine.specs.Machine.{Machine}
-use Rattle.law.specs.History.{Answer}
+use Rattle.law.specs.History.{Answer, is-fault}
 use Rattle.law.specs.Opening.{PlainBoard, board-open, board-step}
 use Rattle.law.specs.Sound as law
 use Rattle.refinement.specs.Stores.{law-bank}
@@ -52,3 +52,7 @@ EveryOpening = (b : Machine) → Sound b → Follows (board-open (law-bank (b .s
 -- every call of a sound machine, opened or not
 abbrev pub EveryCall : Type 0
 EveryCall = (c : Call) (b : Machine) → Sound b → Follows (board-step c (plain-of b)) (machine-step c b .0) (machine-step c b .1)
+
+-- no call of a sound machine meets a store's fault
+abbrev pub NoStoreFault : Type 0
+NoStoreFault = (c : Call) (b : Machine) → Sound b → is-fault (machine-step c b .0) ≡ false
