@@ -17,16 +17,20 @@ use Rattle.ledger.specs.declared.numbered.Numbered.{Numbered}
 use Rattle.ledger.specs.Sets.{SetModel, set-of}
 use Rattle.engine.specs.Seen.{set-seen}
 use Rattle.refinement.specs.Answers.{answered, set-listed}
-use Rattle.refinement.specs.Steps.{came, machine-step}
+use Rattle.refinement.specs.Steps.{came, machine-step, machine-open}
 use Rattle.refinement.specs.Worlds.{plain-of}
-use Rattle.refinement.specs.Sound.{Sound, Follows}
+use Rattle.refinement.specs.Sound.{Sound, Follows, Fresh, LawfulStores}
+use Rattle.tickets.specs.Boards.{Board}
+use Rattle.stores.specs.Model.{StoreModel}
+use mathlib.Core.Bool.{false}
 use Rattle.refinement.specs.Promise.{Ran}
 use Rattle.refinement.proofs.Calls.{every-call}
+use Rattle.refinement.proofs.Opened.{every-making, every-opening, opening-keeps-stores}
 use Rattle.refinement.proofs.Queues.{ran-more}
 use Rattle.middleware.specs.declared.fault.BoardFault.{BoardFault}
 use Rattle.middleware.specs.declared.answer.Answer.{Answer as Answer′}
 use Rattle.middleware.specs.Listing.{listed, result-listed, asked-as, past}
-use Rattle.middleware.specs.Serving.{Serves, Tells, RunsOn}
+use Rattle.middleware.specs.Serving.{Serves, Tells, Made, Opens, RunsOn}
 
 -- the call beside a refusal does not change what is listed
 listed-as : {A : Type 0} (f : A → Answer) (c : Call) (r : Result A Reason) → result-listed f (asked-as c r) ≡ answered f r
@@ -97,3 +101,20 @@ runs-next first before after queue i as′ more d a h l e r s =
 
 pub runs-all : (first after : Machine) (queue : List Call) (i : ℕ) (as′ : List Answer′) → length queue ≤ i → RunsOn first (take i queue) (past (take i queue) as′ []) after → RunsOn first queue (past queue as′ []) after
 runs-all first after queue i as′ h r = subst (λ (x : List Call). RunsOn first x (past x as′ []) after) (take-all i queue h) r
+
+-- ---- making and opening
+
+pub makes : (ms : List StoreModel) (start : Board) (b : Machine) → LawfulStores ms → b ≡ record { opened = false; start = start; stores = ms; txns = []; sets = [] } → Made ms b
+makes ms start b ok e =
+    let new : Fresh b = subst Fresh (sym e) (record { unopened = refl; transactions = refl; write-sets = refl }) in
+    let s = ap (λ (x : Machine). x .stores) e in
+    record { stores = s; plain = ap plain-of e; sound = every-making b new (subst LawfulStores (sym s) ok) }
+
+pub opens : (before after : Machine) (a : Answer) → a ≡ machine-open before .0 → after ≡ machine-open before .1 → Opens before a after
+opens before after a answer left =
+    record {
+      follows = λ sound.
+        let e = every-opening before sound in
+        record { answer = answer ∙ e .answer; after = ap plain-of left ∙ e .after; sound = subst Sound (sym left) (e .sound) };
+      bank = ap (λ (x : Machine). x .stores) left ∙ opening-keeps-stores before;
+    }

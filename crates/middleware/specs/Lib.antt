@@ -1,3 +1,4 @@
 pub mod Meaning
 pub mod Listing
 pub mod Serving
+pub mod Runs

@@ -12,6 +12,7 @@ use Rattle.refinement.specs.Answers.{refusal, state-listed, set-listed, progres
 use Rattle.middleware.specs.declared.answer.Answer.{Answer}
 use Rattle.middleware.specs.declared.answer.Answer.the-variants.{Done, Number, ReadOnly, Abort, State, WriteSet, Applied, Refused}
 use Rattle.machine.specs.declared.reason.Reason.{Reason}
+use Rattle.middleware.specs.declared.fault.Asked.{Asked}
 use Rattle.middleware.specs.declared.fault.Asked.the-variants.{Queued}
 use Rattle.middleware.specs.declared.fault.BoardFault.{BoardFault}
 
@@ -34,10 +35,13 @@ abbrev pub result-listed : {A : Type 0} → (A → law.Answer) → Result A Boar
 result-listed f (Ok a) = f a
 result-listed f (Err e) = fault-listed e
 
--- a refusal with the call beside it
+-- a refusal with what was asked beside it
+abbrev pub asked-to : {A : Type 0} → Asked → Result A Reason → Result A BoardFault
+asked-to what (Ok a) = Ok a
+asked-to what (Err e) = Err (record { asked = what; reason = e })
+
 abbrev pub asked-as : {A : Type 0} → Call → Result A Reason → Result A BoardFault
-asked-as c (Ok a) = Ok a
-asked-as c (Err e) = Err (record { asked = Queued c; reason = e })
+asked-as c r = asked-to (Queued c) r
 
 -- the calls with their answers, behind what came before; the newest stands in front
 unfoldable pub past : List Call → List Answer → History → History

@@ -5,7 +5,8 @@ use Prim.Native.Nat.{ℕ}
 use Rattle.tickets.specs.Boards.{Board}
 use Rattle.calls.specs.declared.call.Call.{Call}
 use Rattle.law.specs.History.{Answer, History}
-use Rattle.law.specs.Opening.{board-step, board-open}
+use Rattle.law.specs.Opening.{PlainBoard, board-step, board-open}
+use Rattle.stores.specs.Model.{StoreModel}
 use Rattle.machine.specs.Machine.{Machine}
 use Rattle.refinement.specs.Stores.{law-bank}
 use Rattle.refinement.specs.Worlds.{plain-of}
@@ -20,9 +21,16 @@ Serves c before a after = Sound before → Follows (board-step c (plain-of befor
 abbrev pub Tells : Call → Machine → Answer → Type 0
 Tells c m a = Sound m → a ≡ board-step c (plain-of m) .0
 
--- open, over the stores of the bank
-abbrev pub Opens : Machine → Answer → Machine → Type 0
-Opens before a after = Sound before → Follows (board-open (law-bank (before .stores)) (plain-of before)) a after
+-- a board just made over a bank with these stores
+pub record Made (ms : List StoreModel) (m : Machine) : Type 0 where
+  pub stores : m .stores ≡ ms
+  pub plain : plain-of m ≡ PlainBoard.unopened
+  pub sound : Sound m
+
+-- open: over a sound middleware the plain board's answer, the plain board after it, sound again; and the bank stays, whatever is answered
+pub record Opens (before : Machine) (a : Answer) (after : Machine) : Type 0 where
+  pub follows : Sound before → Follows (board-open (law-bank (before .stores)) (plain-of before)) a after
+  pub bank : after .stores ≡ before .stores
 
 -- a queue on an opened middleware: where it came from an accepted opening with no call yet, it has run the queue, with this history
 abbrev pub RunsOn : Machine → List Call → History → Machine → Type 0

@@ -3,6 +3,7 @@ use banks::Bank;
 use engine::Engine;
 
 mod calls;
+mod opens;
 mod queue;
 
 #[derive(Drop)]

@@ -33,7 +33,7 @@ impl<B: Bank> Middleware<B> {
     }
 
     // Answers a queue, each call as the one ahead left the board.
-    fn serve(&mut self, queue: &[Call], answers: &mut Vec<Answer>)
+    pub(crate) fn serve(&mut self, queue: &[Call], answers: &mut Vec<Answer>)
         requires none { ⌜ vec-len (now answers) ≡ 0 ⌝ }
         requires room { ⌜ length (now queue) ≤ vec-cap (now answers) ⌝ }
         ensures law { λ _. ⌜ RunsOn (held (B·Bank .stores) (now (self .entry))) (now (queue .entry)) (past (now (queue .entry)) (vec-items (now (answers .exit))) []) (held (B·Bank .stores) (now (self .exit))) ⌝ }
