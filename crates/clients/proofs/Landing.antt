@@ -29,7 +29,7 @@ and-false : (b : Bool) → (b && false) ≡ false
 and-false true = refl
 and-false false = refl
 
-any-none : (f : ℕ → Bool) (n : ℕ) → any-below (λ j. f j && false) n ≡ false
+pub any-none : (f : ℕ → Bool) (n : ℕ) → any-below (λ j. f j && false) n ≡ false
 unfolding any-below
 any-none f zero = refl
 any-none f (suc n) = λ i. and-false (f n) i || any-none f n i

@@ -2,3 +2,5 @@ mod Pairs
 mod Writes
 mod Settles
 mod Landing
+mod Racing
+mod FirstWins
