@@ -4,3 +4,5 @@ mod Settles
 mod Landing
 mod Racing
 mod FirstWins
+mod AtBank
+mod SettlesAtBank

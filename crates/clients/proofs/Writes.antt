@@ -132,7 +132,7 @@ closed-begin m p h =
     rw (l, n)
 
 -- a write set fits into a place that was just opened
-open-writes : (m : StoreModel) (p : ℕ) (ps : Pairs) → Fit ps → begin-answer m p ≡ Ok tt
+pub open-writes : (m : StoreModel) (p : ℕ) (ps : Pairs) → Fit ps → begin-answer m p ≡ Ok tt
     → (writes-answer (begin-after m p) p ps ≡ Ok tt) × (writes-after (begin-after m p) p ps ≡ opened-after m p ps)
 open-writes m p ps fit free =
     let c = begin-closed m p free in

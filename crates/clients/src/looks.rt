@@ -1,0 +1,24 @@
+// A look at an object through a place of its own, at a replica of any bank.
+ghost use mathlib.Core.Path.{_≡_};
+ghost use Rattle.banks.specs.Model.{asked};
+ghost use Rattle.clients.specs.AtBank.{look-answer};
+use banks::Bank;
+use banks::BankFault;
+use banks::Work;
+
+/// Looks at an object through a place that is not open, and leaves the bank as it was.
+/// What a place reads that was just opened is the current value.
+pub fn look<B: Bank>(
+    bank: &mut B,
+    replica: u8,
+    place: usize,
+    object: usize,
+) -> Result<u32, BankFault>
+    ensures answer { λ r. ⌜ r ≡ asked (B·Bank .stores (now (bank .entry))) replica (λ m. look-answer m place object) ⌝ }
+    ensures after { λ _. ⌜ B·Bank .stores (now (bank .exit)) ≡ B·Bank .stores (now (bank .entry)) ⌝ }
+{
+    let work = Work::begin(bank, replica, place)?;
+    let value = work.read(bank, object);
+    let _ = work.abort(bank);
+    value
+}
