@@ -6,6 +6,7 @@ mod store_client;
 
 pub use bank_client::write_and_commit_at;
 pub use looks::look;
+pub use looks::read_and_end;
 pub use race::Entry;
 pub use race::Order;
 pub use race::Race;

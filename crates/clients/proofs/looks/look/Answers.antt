@@ -23,6 +23,6 @@ returns g c =
     let w = c .in-Continue-work .work in
     let o = c .in-Continue-work .ensures tt in
     record {
-      answer = looked ms _ k p (o .after) w (o .answer) (c .args .object) (c .read-value .ensures .answer);
-      after = left-as-it-was ms _ k p (o .after) w (o .answer) (c .abort .ensures .after);
+      answer = looked ms _ k p (o .after) w (o .answer) (c .args .object) (c .read-and-end .ensures .answer);
+      after = left-as-it-was ms _ k p (o .after) w (o .answer) (c .read-and-end .ensures .after);
     }
