@@ -29,7 +29,7 @@ and-false : (b : Bool) → (b && false) ≡ false
 and-false true = refl
 and-false false = refl
 
-any-none : (f : ℕ → Bool) (n : ℕ) → any-below (λ j. f j && false) n ≡ false
+pub any-none : (f : ℕ → Bool) (n : ℕ) → any-below (λ j. f j && false) n ≡ false
 unfolding any-below
 any-none f zero = refl
 any-none f (suc n) = λ i. and-false (f n) i || any-none f n i
@@ -41,12 +41,12 @@ module _ (m : StoreModel) (p : ℕ) (ps : Pairs) (fit : Fit ps) (free : begin-an
   no-clash : clashes (written-place (m .board) ps) ≡ false
   no-clash = any-none (stands ps) 128
 
-  lands-answer : commit-answer (opened-after m p ps) p ≡ write-set-answer m p
+  pub lands-answer : commit-answer (opened-after m p ps) p ≡ write-set-answer m p
   lands-answer =
       ap (λ n. commit-answer n p) opened-is ∙ settle-answer m p (begin-closed m p free) (m .board) nothing ps fit
       ∙ ap (λ b. cond b (Err Overtaken) (room m)) no-clash ∙ ap (λ r. bind r (λ _. room m)) (sym free)
 
-  lands-after : settled-after (opened-after m p ps) p ≡ write-set-after m p ps
+  pub lands-after : settled-after (opened-after m p ps) p ≡ write-set-after m p ps
   lands-after =
       ap (λ n. settled-after n p) opened-is ∙ settle-after m p (begin-closed m p free) (m .board) nothing ps fit
       ∙ ap (λ b. leaves (cond b (Err Overtaken) (room m)) (λ _. committed m ps) m) no-clash ∙ ap (λ r. leaves (bind r (λ _. room m)) (λ _. committed m ps) m) (sym free)

@@ -2,3 +2,7 @@ mod Pairs
 mod Writes
 mod Settles
 mod Landing
+mod Racing
+mod FirstWins
+mod AtBank
+mod SettlesAtBank

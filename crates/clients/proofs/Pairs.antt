@@ -50,8 +50,11 @@ next-within ps i q e = ltb-true i (length ps) (there (ltb i (length ps)) (getD p
 pub next-pair : (ps : Pairs) (i : ℕ) (q : ℕ × ℕ) → Some q ≡ pair-at ps i → drop i ps ≡ q ∷ drop (i + 1) ps
 next-pair ps i q e = drop-more ps i (0, 0) (next-within ps i q e) ∙ ap (λ x. x ∷ drop (i + 1) ps) (sym (there (ltb i (length ps)) (getD ps i (0, 0)) q e .1))
 
+pub past-all : (ps : Pairs) (i : ℕ) → None ≡ pair-at ps i → length ps ≤ i
+past-all ps i e = ltb-false i (length ps) (past (ltb i (length ps)) (getD ps i (0, 0)) e)
+
 pub no-pair : (ps : Pairs) (i : ℕ) → None ≡ pair-at ps i → drop i ps ≡ []
-no-pair ps i e = drop-all i ps (ltb-false i (length ps) (past (ltb i (length ps)) (getD ps i (0, 0)) e))
+no-pair ps i e = drop-all i ps (past-all ps i e)
 
 -- ---- objects that rise
 

@@ -132,7 +132,7 @@ closed-begin m p h =
     rw (l, n)
 
 -- a write set fits into a place that was just opened
-open-writes : (m : StoreModel) (p : ℕ) (ps : Pairs) → Fit ps → begin-answer m p ≡ Ok tt
+pub open-writes : (m : StoreModel) (p : ℕ) (ps : Pairs) → Fit ps → begin-answer m p ≡ Ok tt
     → (writes-answer (begin-after m p) p ps ≡ Ok tt) × (writes-after (begin-after m p) p ps ≡ opened-after m p ps)
 open-writes m p ps fit free =
     let c = begin-closed m p free in
@@ -150,7 +150,11 @@ pub begun-is : (p : ℕ) (w : Work) (r : Result (Unit {0}) StoreFault) → Ok w 
 begun-is p w (Ok u) e = let f : w ≡ record { place = p } = cc in (refl, ap (λ (x : Work). x .place) f)
 begun-is p w (Err d) e = let z : _≡_ {A = ℕ} 0 1 = cc in absurd (omega arith)
 
-ok-not-err : (e : StoreFault) → _≡_ {A = Result (Unit {0}) StoreFault} (Err e) (Ok tt) → ⊥
+pub begun-err : (p : ℕ) (e : StoreFault) (r : Result (Unit {0}) StoreFault) → Err e ≡ begun p r → r ≡ Err e
+begun-err p e (Ok u) h = let z : _≡_ {A = ℕ} 0 1 = cc in absurd (omega arith)
+begun-err p e (Err d) h = cc
+
+pub ok-not-err : (e : StoreFault) → _≡_ {A = Result (Unit {0}) StoreFault} (Err e) (Ok tt) → ⊥
 ok-not-err e h = let z : _≡_ {A = ℕ} 0 1 = cc in omega arith
 
 module _ (m m₁ : StoreModel) (p : ℕ) (w : Work) (ps : Pairs) (fit : Fit ps) (opened : Ok w ≡ begun p (begin-answer m p)) (began : m₁ ≡ begin-after m p) where

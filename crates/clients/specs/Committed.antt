@@ -59,3 +59,6 @@ pub record Landed (m : StoreModel) (ps : Pairs) (m′ : StoreModel) : Type 0 whe
   pub most : m′ .most ≡ m .most
   pub as-many : length (m′ .places) ≡ length (m .places)
   pub places : (q : ℕ) → getD (m′ .places) q None ≡ overtaken-by (stands ps) (getD (m .places) q None)
+
+abbrev pub Lands : StoreModel → ℕ → Pairs → Result (Unit {0}) StoreFault → StoreModel → Type 0
+Lands m p ps r m′ = Closed m p → m .commits < m .most → (r ≡ Ok tt) × Landed m ps m′

@@ -1,3 +1,4 @@
 pub mod Committed
 pub mod Steps
 pub mod Races
+pub mod AtBank

@@ -1,11 +1,9 @@
 // A write set that is committed in a place of its own, at any store.
 ghost use mathlib.Core.Path.{_≡_};
-ghost use Prim.Native.Nat.{_<_};
-ghost use Rattle.std.specs.declared.result.Result.the-variants.{Ok};
 ghost use Rattle.tickets.specs.Meaning.{pairs};
 ghost use Rattle.stores.specs.Model.{begin-answer, commit-answer};
 ghost use Rattle.stores.specs.Works.{place-of, begun};
-ghost use Rattle.clients.specs.Committed.{Closed, opened-after, write-set-answer, write-set-after, Landed};
+ghost use Rattle.clients.specs.Committed.{opened-after, write-set-answer, write-set-after, Lands};
 ghost use Rattle.clients.specs.Steps.{writes-answer, writes-after, settled-after};
 use stores::Store;
 use stores::StoreFault;
@@ -68,7 +66,7 @@ pub fn write_and_commit<S: Store>(
 ) -> Result<(), StoreFault>
     ensures answer { λ r. ⌜ r ≡ write-set-answer (S·Store .meaning (now (store .entry))) place ⌝ }
     ensures after { λ _. ⌜ S·Store .meaning (now (store .exit)) ≡ write-set-after (S·Store .meaning (now (store .entry))) place (pairs (now (set .entry))) ⌝ }
-    ensures law { λ r. ⌜ (Closed (S·Store .meaning (now (store .entry))) place → S·Store .meaning (now (store .entry)) .commits < S·Store .meaning (now (store .entry)) .most → (r ≡ Ok tt) × Landed (S·Store .meaning (now (store .entry))) (pairs (now (set .entry))) (S·Store .meaning (now (store .exit)))) ⌝ }
+    ensures law { λ r. ⌜ Lands (S·Store .meaning (now (store .entry))) place (pairs (now (set .entry))) r (S·Store .meaning (now (store .exit))) ⌝ }
 {
     let work = open_with(store, place, set)?;
     settle(store, work)
