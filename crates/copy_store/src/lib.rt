@@ -1,0 +1,1 @@
+// A store that keeps a whole board at each open place.
