@@ -19,9 +19,9 @@ bit w i = eqb (w / 2 ^ i % 2) 1
 unfoldable pub marked-in : List ℕ → ℕ → Bool
 marked-in ws j = bit (getD ws (j / 64) 0) (j % 64)
 
--- the objects that a set marks
+-- the objects that a set marks: of the 128, and no others
 unfoldable pub marked : Marks → ℕ → Bool
-marked m j = marked-in (m .words) j
+marked m j = ltb j 128 && marked-in (m .words) j
 
 -- ---- marks as a test of the object
 

@@ -1,0 +1,80 @@
+// A copy store's making, and the steps that its calls are made of.
+ghost use mathlib.Core.Path.{_≡_};
+ghost use mathlib.Core.List.{map};
+ghost use Prim.Native.Nat.{_<_};
+ghost use Rattle.std.specs.declared.option.Option.the-variants.{Some, None};
+ghost use Rattle.std.specs.declared.result.Result.the-variants.{Ok, Err};
+ghost use Rattle.std.specs.Vec.{made};
+ghost use Rattle.marks.specs.Marked.{marked};
+ghost use Rattle.stores.specs.Model.{place-at, begin-answer, fresh, with-place, leaves, landed, overtaken-by};
+ghost use Rattle.copy_store.specs.Copied.{meaning-of, place-of, seat-of, made-from};
+use crate::place::Place;
+use crate::store::CopyStore;
+use crate::store::PLACES;
+use marks::Marks;
+use stores::StoreFault;
+use tickets::OBJECTS;
+
+impl CopyStore {
+    /// A store of these values, with nothing committed and every place closed.
+    pub fn new(values: [u32; OBJECTS]) -> CopyStore
+        ensures answer { λ r. ⌜ meaning-of r ≡ made-from values ⌝ }
+    {
+        CopyStore { board: values, commits: 0, places: [None; PLACES] }
+    }
+
+    // The open place of this number.
+    pub(super) fn place_at(&self, place: usize) -> Result<&Place, StoreFault>
+        ensures within { λ r. ⌜ made r (λ _. place < 16) ⌝ }
+        ensures answer { λ r. ⌜ elim r [ Ok open ↦ place-at (meaning-of (now (self .entry))) place ≡ Ok (place-of (now open)) | Err fault ↦ place-at (meaning-of (now (self .entry))) place ≡ Err fault ] ⌝ }
+    {
+        if place >= PLACES {
+            return Err(StoreFault::NoPlace);
+        }
+        match &self.places[place] {
+            Some(open) => Ok(open),
+            None => Err(StoreFault::PlaceClosed),
+        }
+    }
+
+    // Whether a place can be opened.
+    pub(super) fn vacant(&self, place: usize) -> Result<(), StoreFault>
+        ensures within { λ r. ⌜ made r (λ _. place < 16) ⌝ }
+        ensures answer { λ r. ⌜ r ≡ begin-answer (meaning-of (now (self .entry))) place ⌝ }
+    {
+        if place >= PLACES {
+            return Err(StoreFault::NoPlace);
+        }
+        match &self.places[place] {
+            Some(_) => Err(StoreFault::PlaceOpen),
+            None => Ok(()),
+        }
+    }
+
+    // Opens a place on the current board, which is copied here once.
+    pub(super) fn open(&mut self, place: usize)
+        requires { ⌜ place < 16 ⌝ }
+        ensures after { λ _. ⌜ meaning-of (now (self .exit)) ≡ with-place (meaning-of (now (self .entry))) place (Some (fresh (now (self .entry) .board))) ⌝ }
+    {
+        self.places[place] = Some(Place::over(&self.board));
+    }
+
+    // Closes a place.
+    pub(super) fn free(&mut self, place: usize)
+        requires { ⌜ place < 16 ⌝ }
+        ensures after { λ _. ⌜ meaning-of (now (self .exit)) ≡ with-place (meaning-of (now (self .entry))) place None ⌝ }
+    {
+        self.places[place] = None;
+    }
+}
+
+// Marks these objects as overtaken at every open place.
+fn overtake(places: &mut [Option<Place>], objects: &Marks)
+    ensures after { λ _. ⌜ map seat-of (now (places .exit)) ≡ map (overtaken-by (marked (now (objects .entry)))) (map seat-of (now (places .entry))) ⌝ }
+{
+    for seat in places.iter_mut() {
+        if let Some(open) = seat {
+            open.overtake(objects);
+        }
+    }
+}
