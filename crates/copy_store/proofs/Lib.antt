@@ -1,0 +1,3 @@
+mod Writes
+mod Turns
+mod Kept

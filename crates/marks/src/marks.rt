@@ -1,7 +1,8 @@
 // A set of the 128 objects: the mark of object j is bit j mod 64, from the lowest, of word j div 64.
 ghost use mathlib.Core.Path.{_≡_};
 ghost use mathlib.Core.Bool.{true, false};
-ghost use Prim.Native.Nat.{_-_};
+ghost use Prim.Native.Nat.{_-_, _<_};
+ghost use Rattle.std.specs.Slices.{found};
 ghost use Rattle.marks.specs.Marked.{marked, no-mark, with-mark, either, both, count-below, any-below, lowest-from, Lowest};
 use crate::words;
 
@@ -52,6 +53,7 @@ impl Marks {
     pub fn lowest_from(&self, object: usize) -> Option<usize>
         ensures answer { λ r. ⌜ r ≡ lowest-from (marked (now (self .entry))) object (128 - object) ⌝ }
         ensures lowest { λ r. ⌜ Lowest (marked (now (self .entry))) object r ⌝ }
+        ensures within { λ r. ⌜ found r (λ k. k < 128) ⌝ }
     {
         words::lowest_from(&self.words, object)
     }

@@ -7,7 +7,8 @@ ghost use Rattle.std.specs.declared.result.Result.the-variants.{Ok, Err};
 ghost use Rattle.std.specs.Vec.{made};
 ghost use Rattle.marks.specs.Marked.{marked};
 ghost use Rattle.stores.specs.Model.{place-at, begin-answer, fresh, with-place, leaves, landed, overtaken-by};
-ghost use Rattle.copy_store.specs.Copied.{meaning-of, place-of, seat-of, made-from};
+ghost use Rattle.copy_store.specs.Copied.{meaning-of, made-from};
+ghost use Rattle.copy_store.specs.Places.{place-of, seat-of};
 use crate::place::Place;
 use crate::store::CopyStore;
 use crate::store::PLACES;
@@ -26,7 +27,7 @@ impl CopyStore {
     // The open place of this number.
     pub(super) fn place_at(&self, place: usize) -> Result<&Place, StoreFault>
         ensures within { λ r. ⌜ made r (λ _. place < 16) ⌝ }
-        ensures answer { λ r. ⌜ elim r [ Ok open ↦ place-at (meaning-of (now (self .entry))) place ≡ Ok (place-of (now open)) | Err fault ↦ place-at (meaning-of (now (self .entry))) place ≡ Err fault ] ⌝ }
+        ensures answer { λ r. ⌜ elim r [ Ok held ↦ place-at (meaning-of (now (self .entry))) place ≡ Ok (place-of (now held)) | Err fault ↦ place-at (meaning-of (now (self .entry))) place ≡ Err fault ] ⌝ }
     {
         if place >= PLACES {
             return Err(StoreFault::NoPlace);
@@ -65,6 +66,20 @@ impl CopyStore {
         ensures after { λ _. ⌜ meaning-of (now (self .exit)) ≡ with-place (meaning-of (now (self .entry))) place None ⌝ }
     {
         self.places[place] = None;
+    }
+
+    // Plays the own writes of an open place over the board, counts the commit, marks their objects at every other place, and closes it.
+    pub(super) fn land(&mut self, place: usize)
+        requires { ⌜ place < 16 ⌝ ∗ ⌜ now self .commits < 65535 ⌝ }
+        ensures after { λ _. ⌜ meaning-of (now (self .exit)) ≡ leaves (place-at (meaning-of (now (self .entry))) place) (landed (meaning-of (now (self .entry))) place) (meaning-of (now (self .entry))) ⌝ }
+    {
+        if let Some(open) = &self.places[place] {
+            open.play(&mut self.board);
+            let wrote = open.wrote();
+            self.commits += 1;
+            overtake(&mut self.places, &wrote);
+            self.places[place] = None;
+        }
     }
 }
 

@@ -1,0 +1,21 @@
+-- One more mark and its value are one more own write.
+use mathlib.Core.Path.{_≡_, sym, ap, _∙_}
+use native.Mathlib.Omega.{arith}
+use Rattle.stores.specs.Model.{done, kept}
+use Rattle.copy_store.specs.Places.{place-of}
+use Rattle.copy_store.proofs.Writes.{write-taken, own-with, still-few}
+use Rattle.copy_store.proofs.place.Place.write.Needs as need
+
+pub returns : need.returns
+returns c =
+    let x = c .args .self .now in
+    let j = c .args .object in
+    let v = c .args .value in
+    let room = sym (c .if-not-has-room .ensures tt .answer) in
+    let taken = sym (write-taken x j v (omega arith) room) in
+    let own = own-with x j v (omega arith) (c .mark .last .self) (c .mark .ensures .after) (omega arith) in
+    record {
+      answer = ap done taken;
+      after = (λ i. record { snapshot = x .snapshot; own = own i; overtaken = place-of x .overtaken }) ∙ ap (λ r. kept r (place-of x)) taken;
+      few = still-few x j v (omega arith) (c .mark .last .self) (c .mark .ensures .after) _ room;
+    }
