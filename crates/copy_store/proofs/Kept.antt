@@ -57,9 +57,9 @@ writes-stay w None = refl
 pub few-overtaken : (w : ℕ → Bool) (ps qs : List (Option Place)) → map seat-of qs ≡ map (overtaken-by w) (map seat-of ps) → Few ps → Few qs
 few-overtaken w ps qs e few p =
     let seat : seat-of (getD qs p None) ≡ overtaken-by w (seat-of (getD ps p None)) =
-        sym (seen-at seat-of refl qs p) ∙ ap (λ xs. getD xs p None) e ∙ seen-at (overtaken-by w) refl (map seat-of ps) p ∙ ap (overtaken-by w) (seen-at seat-of refl ps p) in
+    sym (seen-at seat-of refl qs p) ∙ ap (λ xs. getD xs p None) e ∙ seen-at (overtaken-by w) refl (map seat-of ps) p ∙ ap (overtaken-by w) (seen-at seat-of refl ps p) in
     let same : own-writes (getD qs p None) ≡ own-writes (getD ps p None) =
-        writes-seen (getD qs p None) ∙ ap seat-writes seat ∙ writes-stay w (seat-of (getD ps p None)) ∙ sym (writes-seen (getD ps p None)) in
+    writes-seen (getD qs p None) ∙ ap seat-writes seat ∙ writes-stay w (seat-of (getD ps p None)) ∙ sym (writes-seen (getD ps p None)) in
     omega (arith, same, few p)
 
 -- so what the store means keeps the law of own writes

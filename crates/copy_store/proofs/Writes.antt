@@ -86,6 +86,7 @@ module _ (x : Place) (j v : ℕ) (h : j < 128) (w : Marks) (one-more : marked w 
           let e : eqb k j ≡ true = eq-eqb k j q in
           let new : getD (set (x .own) j v) k 0 ≡ v = ap (λ n. getD (set (x .own) j v) n 0) q ∙ getD-set-same (x .own) j v 0 (omega arith) in
           rw (e, new)
+
       elsewhere : (k : ℕ) → (k ≡ j → ⊥) → cond (cond (eqb k j) true (marked (x .wrote) k)) (Some (getD (set (x .own) j v) k 0)) None ≡ with-write (own-of x) j v k
       elsewhere k ne =
           let e : eqb k j ≡ false = ne-eqb k j ne in
@@ -98,6 +99,6 @@ module _ (x : Place) (j v : ℕ) (h : j < 128) (w : Marks) (one-more : marked w 
   still-few own room few =
       let y : Place = record { snapshot = x .snapshot; own = own; wrote = w; overtaken = x .overtaken } in
       let grown : own-count (place-of y) ≡ cond (marked (x .wrote) j) 0 1 + own-count (place-of x) =
-          sym (count-is y) ∙ ap (λ f. marks.count-below f 128) marked-now ∙ count-with (marked (x .wrote)) j 128 h ∙ ap (λ n. cond (marked (x .wrote) j) 0 1 + n) (count-is x) in
+      sym (count-is y) ∙ ap (λ f. marks.count-below f 128) marked-now ∙ count-with (marked (x .wrote)) j 128 h ∙ ap (λ n. cond (marked (x .wrote) j) 0 1 + n) (count-is x) in
       let b : (marked (x .wrote) j || ltb (own-count (place-of x)) 8) ≡ true = ap (λ f. f j || ltb (own-count (place-of x)) 8) (sym (written-is x)) ∙ room in
       omega (arith, grown, at-most-eight (marked (x .wrote) j) (own-count (place-of x)) few b)

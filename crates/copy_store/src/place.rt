@@ -26,10 +26,15 @@ pub struct Place {
 
 impl Place {
     /// A place that begins on this board.
-    pub fn over(board: &[u32; OBJECTS]) -> Place
+    pub fn on(board: &[u32; OBJECTS]) -> Place
         ensures answer { λ r. ⌜ place-of r ≡ fresh (now (board .entry)) ⌝ }
     {
-        Place { snapshot: *board, own: [0; OBJECTS], wrote: Marks::none(), overtaken: Marks::none() }
+        Place {
+            snapshot: *board,
+            own: [0; OBJECTS],
+            wrote: Marks::none(),
+            overtaken: Marks::none(),
+        }
     }
 
     /// The own write of an object, else its value in the snapshot.
@@ -82,7 +87,10 @@ impl Place {
         ensures answer { λ r. ⌜ r ≡ first-from (own-of (now (self .entry))) object (128 - object) ⌝ }
     {
         match self.wrote.lowest_from(object) {
-            Some(object) => Some(Pair { object, value: self.own[object] }),
+            Some(object) => Some(Pair {
+                object,
+                value: self.own[object],
+            }),
             None => None,
         }
     }

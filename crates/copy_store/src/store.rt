@@ -12,6 +12,7 @@ mod methods;
 
 // The most commits that write.
 pub const MOST: u32 = 65_535;
+
 pub const PLACES: usize = 16;
 
 #[derive(Drop)]

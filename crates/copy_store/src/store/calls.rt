@@ -1,7 +1,6 @@
 // The calls of a store, as the copy store does them. Reads, writes and questions touch a place where it lies.
 ghost use Rattle.copy_store.specs.Copied.{meaning-of};
 use crate::store::CopyStore;
-use crate::store::MOST;
 use crate::store::PLACES;
 use stores::Store;
 use stores::StoreFault;
@@ -49,7 +48,7 @@ pub impl Store for CopyStore as CopyStoreStore {
             self.free(place);
             return Err(StoreFault::Overtaken);
         }
-        if self.commits == MOST {
+        if self.is_full() {
             return Err(StoreFault::Full);
         }
         self.land(place);
@@ -57,7 +56,7 @@ pub impl Store for CopyStore as CopyStoreStore {
     }
 
     fn abort(&mut self, place: usize) -> Result<(), StoreFault> {
-        self.place_at(place)?;
+        let _ = self.place_at(place)?;
         self.free(place);
         Ok(())
     }

@@ -2,6 +2,7 @@
 ghost use mathlib.Core.Path.{_≡_};
 ghost use mathlib.Core.List.{map};
 ghost use Prim.Native.Nat.{_<_};
+ghost use lib.Dec.{eqb};
 ghost use Rattle.std.specs.declared.option.Option.the-variants.{Some, None};
 ghost use Rattle.std.specs.declared.result.Result.the-variants.{Ok, Err};
 ghost use Rattle.std.specs.Vec.{made};
@@ -11,6 +12,7 @@ ghost use Rattle.copy_store.specs.Copied.{meaning-of, made-from};
 ghost use Rattle.copy_store.specs.Places.{place-of, seat-of};
 use crate::place::Place;
 use crate::store::CopyStore;
+use crate::store::MOST;
 use crate::store::PLACES;
 use marks::Marks;
 use stores::StoreFault;
@@ -21,7 +23,11 @@ impl CopyStore {
     pub fn new(values: [u32; OBJECTS]) -> CopyStore
         ensures answer { λ r. ⌜ meaning-of r ≡ made-from values ⌝ }
     {
-        CopyStore { board: values, commits: 0, places: [None; PLACES] }
+        CopyStore {
+            board: values,
+            commits: 0,
+            places: [None; PLACES],
+        }
     }
 
     // The open place of this number.
@@ -57,7 +63,14 @@ impl CopyStore {
         requires { ⌜ place < 16 ⌝ }
         ensures after { λ _. ⌜ meaning-of (now (self .exit)) ≡ with-place (meaning-of (now (self .entry))) place (Some (fresh (now (self .entry) .board))) ⌝ }
     {
-        self.places[place] = Some(Place::over(&self.board));
+        self.places[place] = Some(Place::on(&self.board));
+    }
+
+    // Whether it has taken all the commits that it takes.
+    pub(super) fn is_full(&self) -> bool
+        ensures answer { λ r. ⌜ r ≡ eqb (now (self .entry) .commits) 65535 ⌝ }
+    {
+        self.commits == MOST
     }
 
     // Closes a place.

@@ -20,5 +20,5 @@ returns c =
     let own = own-of x in
     let goal : ℕ → ℕ = λ k. orElse (own k) (getD b k 0) in
     let rest = passes (λ v. v) goal 0 b now (c .loop-object .from) 128 (c .loop-object .inv .1)
-        (λ k p h. sym (ap (λ m. orElse (cond m (Some (getD (x .own) k 0)) None) (getD b k 0)) (c .in-rest .ensures tt .lowest k p))) (c .loop-object .inv .0) in
+    (λ k p h. sym (ap (λ m. orElse (cond m (Some (getD (x .own) k 0)) None) (getD b k 0)) (c .in-rest .ensures tt .lowest k p))) (c .loop-object .inv .0) in
     record { after = sym (map-id now) ∙ ends (λ v. v) goal 0 b now 128 (played own b) 0 rest (omega arith) (length-played own b) (getD-played own b) }

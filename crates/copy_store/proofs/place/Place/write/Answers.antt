@@ -1,7 +1,9 @@
 -- One more mark and its value are one more own write.
+use mathlib.Core.Bool.{true, _||_}
 use mathlib.Core.Path.{_≡_, sym, ap, _∙_}
 use native.Mathlib.Omega.{arith}
-use Rattle.stores.specs.Model.{done, kept}
+use lib.Dec.{ltb}
+use Rattle.stores.specs.Model.{done, kept, written, own-count}
 use Rattle.copy_store.specs.Places.{place-of}
 use Rattle.copy_store.proofs.Writes.{write-taken, own-with, still-few}
 use Rattle.copy_store.proofs.place.Place.write.Needs as need
@@ -11,7 +13,7 @@ returns c =
     let x = c .args .self .now in
     let j = c .args .object in
     let v = c .args .value in
-    let room = sym (c .if-not-has-room .ensures tt .answer) in
+    let room : (written (place-of x) j || ltb (own-count (place-of x)) 8) ≡ true = sym (c .if-not-has-room .ensures tt .answer) in
     let taken = sym (write-taken x j v (omega arith) room) in
     let own = own-with x j v (omega arith) (c .mark .last .self) (c .mark .ensures .after) (omega arith) in
     record {

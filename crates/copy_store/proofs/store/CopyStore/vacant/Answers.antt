@@ -1,22 +1,15 @@
-use mathlib.Core.Path.{refl, sym}
-use native.Mathlib.Omega.{arith}
+use mathlib.Core.Path.{sym}
 use Rattle.stores.specs.Model.{vacant}
-use Rattle.stores.proofs.Seats.{seat-none, seat-is}
-use Rattle.copy_store.specs.Copied.{meaning-of}
-use Rattle.copy_store.specs.Places.{seat-of}
+use Rattle.copy_store.proofs.Seated.{no-seat, the-seat}
 use Rattle.copy_store.proofs.store.CopyStore.vacant.Needs as need
 
 pub returns-then-place-ge-PLACES : need.returns-then-place-ge-PLACES
-returns-then-place-ge-PLACES c =
-    let s = c .args .self .now in
-    record { within = tt; answer = sym (seat-none (meaning-of s) seat-of (s .places) refl (c .args .place) vacant (omega arith)) }
+returns-then-place-ge-PLACES c = record { within = tt; answer = sym (no-seat (c .args .self .now) (c .args .place) vacant (c .if-place-ge-PLACES .taken)) }
 
 pub returns-in-Some : need.returns-in-Some
-returns-in-Some c =
-    let s = c .args .self .now in
-    record { within = tt; answer = sym (seat-is (meaning-of s) seat-of (s .places) refl (c .args .place) _ vacant (omega arith) (c .in-Some .is)) }
+returns-in-Some c = record { within = tt; answer = sym (the-seat (c .args .self .now) (c .args .place) _ vacant (c .if-place-ge-PLACES .left) (c .in-Some .is)) }
 
 pub returns-in-None : need.returns-in-None
 returns-in-None c =
-    let s = c .args .self .now in
-    record { within = c .if-place-ge-PLACES .left; answer = sym (seat-is (meaning-of s) seat-of (s .places) refl (c .args .place) _ vacant (omega arith) (c .in-None .is)) }
+    let inside = c .if-place-ge-PLACES .left in
+    record { within = inside; answer = sym (the-seat (c .args .self .now) (c .args .place) _ vacant inside (c .in-None .is)) }

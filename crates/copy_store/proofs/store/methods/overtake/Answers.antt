@@ -20,7 +20,7 @@ returns c =
     let goal : ℕ → Option model.Place = λ k. f (seat-of (getD ps k None)) in
     record {
       after =
-        ends seat-of goal None ps (c .loop-seat .places) (c .loop-seat .seat-index) (map f (map seat-of ps)) None (c .loop-seat .inv) (omega arith)
-        (length-map (map seat-of ps) f ∙ length-map ps seat-of)
-        (λ k h. getD-map f (map seat-of ps) k None None (omega (arith, length-map ps seat-of)) ∙ ap f (getD-map seat-of ps k None None h));
+          ends seat-of goal None ps (c .loop-seat .places) (c .loop-seat .seat-index) (map f (map seat-of ps)) None (c .loop-seat .inv) (omega arith)
+          (length-map (map seat-of ps) f ∙ length-map ps seat-of)
+          (λ k h. getD-map f (map seat-of ps) k None None (omega (arith, length-map ps seat-of)) ∙ ap f (getD-map seat-of ps k None None h));
     }

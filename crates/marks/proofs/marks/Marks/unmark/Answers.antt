@@ -14,6 +14,6 @@ returns c =
     let objects : 64 * length (m .words) ≡ 128 = omega arith in
     record {
       after =
-        in-its-words _ (omega arith) ∙ c .unmark .ensures .after
-        ∙ (λ i. with-mark (objects i) (c .args .object) false (sym (in-its-words m (omega arith)) i));
+          in-its-words _ (omega arith) ∙ c .unmark .ensures .after
+          ∙ (λ i. with-mark (objects i) (c .args .object) false (sym (in-its-words m (omega arith)) i));
     }
