@@ -3,3 +3,4 @@ mod place;
 pub mod store;
 
 pub use store::CopyStore;
+pub use store::CopyStoreStore;

@@ -10,6 +10,8 @@ use tickets::OBJECTS;
 mod calls;
 mod methods;
 
+pub use calls::CopyStoreStore;
+
 // The most commits that write.
 pub const MOST: u32 = 65_535;
 

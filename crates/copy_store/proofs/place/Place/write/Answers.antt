@@ -13,7 +13,8 @@ returns c =
     let x = c .args .self .now in
     let j = c .args .object in
     let v = c .args .value in
-    let room : (written (place-of x) j || ltb (own-count (place-of x)) 8) ≡ true = sym (c .if-not-has-room .ensures tt .answer) in
+    let told : true ≡ (written (place-of x) j || ltb (own-count (place-of x)) 8) = c .if-not-has-room .ensures tt .answer in
+    let room = sym told in
     let taken = sym (write-taken x j v (omega arith) room) in
     let own = own-with x j v (omega arith) (c .mark .last .self) (c .mark .ensures .after) (omega arith) in
     record {
