@@ -12,7 +12,7 @@ use Rattle.std.specs.declared.option.Option.the-variants.{Some, None}
 use Rattle.stores.specs.Model.{overtaken-by, spread}
 use Rattle.versions.specs.Writes.{own-of}
 use Rattle.versions.specs.Histories.{newest, after-commit}
-use Rattle.versions.specs.Kept.{HistoryModel, land-after}
+use Rattle.versions.specs.Meaning.{HistoryModel, land-after}
 use Rattle.versions.proofs.Histories.{board-before, board-after, since-after}
 use Rattle.version_store.specs.declared.place.Place.{Place}
 use Rattle.version_store.specs.Begun.{begun-of}

@@ -13,7 +13,7 @@ use Rattle.stores.specs.declared.fault.StoreFault.the-variants.{NoPlace}
 use Rattle.stores.specs.Model as model
 use Rattle.stores.specs.Model.{seat-at, with-place}
 use Rattle.stores.proofs.Seats.{seat-none, seat-is, with-seat}
-use Rattle.versions.specs.Kept.{history-of}
+use Rattle.versions.specs.Meaning.{history-of}
 use Rattle.version_store.specs.declared.place.Place.{Place}
 use Rattle.version_store.specs.declared.store.VersionStore.{VersionStore}
 use Rattle.version_store.specs.Begun.{begun-of}

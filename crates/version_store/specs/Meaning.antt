@@ -7,7 +7,7 @@ use Rattle.stores.specs.Model as model
 use Rattle.stores.specs.Model.{StoreModel}
 use Rattle.versions.specs.Writes.{own-of}
 use Rattle.versions.specs.Histories.{board-at, written-since}
-use Rattle.versions.specs.Kept.{HistoryModel, history-of}
+use Rattle.versions.specs.Meaning.{HistoryModel, history-of}
 use Rattle.version_store.specs.declared.place.Place.{Place}
 use Rattle.version_store.specs.declared.store.VersionStore.{VersionStore}
 

@@ -1,5 +1,5 @@
 -- The versions that the pairs of a commit leave, one pair after another. Assumes nothing.
-use mathlib.Core.Path.{_≡_, refl, sym, ap, _∙_}
+use mathlib.Core.Path.{_≡_, refl, sym, ap, subst, _∙_}
 use mathlib.Core.Bool.{Bool, true, false, cond}
 use mathlib.Core.List.{List, [], _∷_}
 use Prim.Native.Nat.{ℕ, _+_, _≤_, _<_}
@@ -35,6 +35,9 @@ module _ (versions : ℕ → List Dated) (c : ℕ) (ps : List Pair) (once : each
   commit-end h = ap (λ l. after-commit versions c (own-in l)) (at-drop-all (λ l. l) ps i h)
 
 -- no version is from a commit to come
-pub newest-past : (c : ℕ) (o : Option ℕ) (h : List Dated) → newest h ≤ c → newest (newer (c + 1) o h) ≤ c + 1
+newest-past : (c : ℕ) (o : Option ℕ) (h : List Dated) → newest h ≤ c → newest (newer (c + 1) o h) ≤ c + 1
 newest-past c None h l = omega arith
 newest-past c (Some v) h l = omega arith
+
+pub still-past : (versions new : ℕ → List Dated) (c : ℕ) (own : ℕ → Option ℕ) → new ≡ after-commit versions (c + 1) own → ((j : ℕ) → newest (versions j) ≤ c) → (j : ℕ) → newest (new j) ≤ c + 1
+still-past versions new c own e past j = subst (λ v. newest (v j) ≤ c + 1) (sym e) (newest-past c (own j) (versions j) (past j))

@@ -4,7 +4,10 @@ ghost use Rattle.versions.specs.Histories.{newest};
 ghost use Rattle.versions.specs.Chained.{versions-of, size-of};
 use crate::chains::Chains;
 
-pub mod methods;
+mod methods;
+
+/// The most commits that write.
+pub const MOST_COMMITS: u32 = 256;
 
 // No version is from a commit to come.
 #[derive(Drop)]

@@ -8,18 +8,16 @@ ghost use Rattle.versions.specs.Pairs.{own-in, each-once};
 ghost use Rattle.versions.specs.Writes.{own-of};
 ghost use Rattle.versions.specs.Histories.{started, board-at, after-commit};
 ghost use Rattle.versions.specs.Chained.{versions-of, size-of};
-ghost use Rattle.versions.specs.Kept.{HistoryModel, history-of, value-in, clash-since, land-answer, land-after};
+ghost use Rattle.versions.specs.Meaning.{HistoryModel, history-of, value-in, clash-since, land-answer, land-after};
 use crate::chains::Chains;
 use crate::history::History;
+use crate::history::MOST_COMMITS;
 use crate::own_writes::OwnWrites;
 use std::alloc::AllocError;
 use std::alloc::Global;
 use stores::StoreFault;
 use tickets::OBJECTS;
 use tickets::Pair;
-
-/// The most commits that write.
-pub const MOST_COMMITS: u32 = 256;
 
 impl History {
     /// A history of no commits, from these values; all memory is reserved here.

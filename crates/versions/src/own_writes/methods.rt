@@ -11,18 +11,22 @@ ghost use Rattle.versions.specs.Pairs.{each-once, no-pair, lower-from};
 ghost use Rattle.versions.specs.Writes.{own-of, held, count-of, set-own, own-left};
 use crate::own_writes::OwnWrites;
 use stores::StoreFault;
+use tickets::MOST_PAIRS;
 use tickets::OBJECTS;
 use tickets::Pair;
-
-/// The most objects that a place may write.
-pub const MOST_PAIRS: usize = 8;
 
 impl OwnWrites {
     /// No writes.
     pub fn none() -> OwnWrites
         ensures answer { λ r. ⌜ own-of r ≡ no-writes ⌝ }
     {
-        OwnWrites { pairs: [Pair { object: 0, value: 0 }; 8], count: 0 }
+        OwnWrites {
+            pairs: [Pair {
+                object: 0,
+                value: 0,
+            }; 8],
+            count: 0,
+        }
     }
 
     // The pairs, each object once.

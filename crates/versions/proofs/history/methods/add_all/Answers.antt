@@ -16,11 +16,12 @@ add-requires c κs =
 pub loop-pair-again : need.loop-pair-again
 loop-pair-again c =
     let ps = c .args .pairs .now in
-    let i = c .loop-pair .pair-index in
-    (ap (λ v. after-commit v (c .args .commit) (own-in (drop (i + 1) ps))) (c .add .ensures .versions)
-    ∙ commit-more (versions-of (c .loop-pair .chains)) (c .args .commit) ps (c .pre .0) i (c .loop-pair-test .taken)
-    ∙ c .loop-pair .inv .0,
-    omega (arith, c .add .ensures .size, c .loop-pair .inv .1))
+    let i = c .loop-pair .pair-index in (
+      ap (λ v. after-commit v (c .args .commit) (own-in (drop (i + 1) ps))) (c .add .ensures .versions)
+          ∙ commit-more (versions-of (c .loop-pair .chains)) (c .args .commit) ps (c .pre .0) i (c .loop-pair-test .taken)
+          ∙ c .loop-pair .inv .0,
+      omega (arith, c .add .ensures .size, c .loop-pair .inv .1),
+    )
 
 pub returns : need.returns
 returns c =

@@ -9,7 +9,7 @@ use Rattle.std.specs.declared.option.Option.the-variants.{Some, None}
 use Rattle.std.proofs.shelf.Lists.{length-map, getD-map, getD-past}
 use Rattle.std.proofs.shelf.Tests.{cases-lt}
 use Rattle.stores.specs.Model.{OwnLawful}
-use Rattle.versions.specs.Kept.{HistoryModel, history-of}
+use Rattle.versions.specs.Meaning.{HistoryModel, history-of}
 use Rattle.versions.proofs.Histories.{length-board-at}
 use Rattle.versions.proofs.Held.{held-few, held-past}
 use Rattle.version_store.specs.declared.place.Place.{Place}
