@@ -3,7 +3,7 @@ ghost use mathlib.Core.Path.{_≡_};
 ghost use Prim.Native.Nat.{ℕ, _≤_};
 ghost use lib.ListN.{length, getD};
 ghost use Rattle.std.specs.declared.option.Option.the-variants.{None};
-ghost use Rattle.versions.specs.Meaning.{HistoryModel, history-of};
+ghost use Rattle.versions.specs.Meaning.{history-of};
 ghost use Rattle.version_store.specs.Begun.{begun-of};
 use crate::place::Place;
 use versions::History;

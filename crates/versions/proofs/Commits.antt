@@ -1,7 +1,7 @@
 -- The versions that the pairs of a commit leave, one pair after another. Assumes nothing.
 use mathlib.Core.Path.{_≡_, refl, sym, ap, subst, _∙_}
 use mathlib.Core.Bool.{Bool, true, false, cond}
-use mathlib.Core.List.{List, [], _∷_}
+use mathlib.Core.List.{List, _∷_}
 use Prim.Native.Nat.{ℕ, _+_, _≤_, _<_}
 use native.Mathlib.Omega.{arith}
 use lib.Dec.{eqb}
@@ -13,7 +13,7 @@ use Rattle.std.proofs.shelf.Tests.{eqb-true}
 use Rattle.tickets.specs.declared.pair.Pair.{Pair}
 use Rattle.versions.specs.Pairs.{own-in, each-once, no-pair}
 use Rattle.versions.specs.Histories.{Dated, newest, newer, with-version, after-commit}
-use Rattle.versions.proofs.Pairs.{Headed, headed, headed-at}
+use Rattle.versions.proofs.Pairs.{headed-at}
 
 one-more : (b : Bool) (c v : ℕ) (o : Option ℕ) (h : List Dated) → (b ≡ true → o ≡ None) → newer c o (cond b (record { commit = c; value = v } ∷ h) h) ≡ newer c (cond b (Some v) o) h
 one-more true c v o h n = ap (λ o. newer c o (record { commit = c; value = v } ∷ h)) (n refl)

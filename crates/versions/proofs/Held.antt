@@ -1,7 +1,6 @@
 -- The pairs that own writes hold: those below their count. Assumes nothing.
-use mathlib.Core.Path.{_≡_, refl, sym, ap, subst, _∙_}
-use mathlib.Core.Bool.{Bool, true, false, cond, _||_}
-use mathlib.Core.List.{List, [], _∷_, _++_}
+use mathlib.Core.Path.{_≡_, sym, ap, subst, _∙_}
+use mathlib.Core.Bool.{true, false}
 use mathlib.Core.Logic.{⊎-elim}
 use Prim.Native.Nat.{ℕ, _+_, _-_, _≤_, _<_}
 use native.Mathlib.Omega.{arith}
@@ -18,7 +17,7 @@ use Rattle.stores.specs.declared.fault.StoreFault.the-variants.{NinthObject}
 use Rattle.stores.specs.Model.{with-write, first-from}
 use Rattle.tickets.specs.declared.pair.Pair.{Pair}
 use Rattle.versions.specs.declared.own_writes.OwnWrites.{OwnWrites}
-use Rattle.versions.specs.Pairs.{own-in, each-once, no-pair, lower-from}
+use Rattle.versions.specs.Pairs.{own-in, no-pair, lower-from}
 use Rattle.versions.specs.Writes.{own-of, count-of, set-own, held}
 use Rattle.versions.proofs.Pairs.{Wrote, headed-at, none-past, own-head, own-at, write-new, write-over}
 use Rattle.versions.proofs.Counts.{count-is}

@@ -1,18 +1,18 @@
 -- Chains of versions: one version more in the pool, and the version at an index. Assumes nothing.
 use mathlib.Core.Path.{_≡_, refl, sym, ap, subst, _∙_}
-use mathlib.Core.Bool.{Bool, true, false, cond, _&&_}
+use mathlib.Core.Bool.{true, false}
 use mathlib.Core.List.{List, [], _∷_, _++_, reverse}
 use mathlib.Core.Logic.{⊎-elim}
-use Prim.Native.Nat.{ℕ, zero, suc, _+_, _≤_, _<_}
+use Prim.Native.Nat.{ℕ, _+_, _≤_, _<_}
 use native.Mathlib.Omega.{arith}
-use lib.Dec.{eqb, ltb}
+use lib.Dec.{eqb}
 use lib.ListN.{length, getD}
 use Rattle.std.specs.declared.option.Option.{Option}
 use Rattle.std.specs.declared.option.Option.the-variants.{Some, None}
 use Rattle.std.proofs.shelf.Lists.{reverse-append, length-reverse, getD-push, getD-append-left}
 use Rattle.std.proofs.shelf.Tests.{lt-ltb, ltb-true, eq-eqb, ne-eqb, and-parts, and-from, cases-eq}
 use Rattle.versions.specs.declared.version.Version.{Version}
-use Rattle.versions.specs.Histories.{Dated, first}
+use Rattle.versions.specs.Histories.{first}
 use Rattle.versions.specs.Links.{before, falling, dated, chain, height}
 
 pub before-more : (link : Option ℕ) (m n : ℕ) → m ≤ n → before link m ≡ true → before link n ≡ true

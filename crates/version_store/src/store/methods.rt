@@ -1,15 +1,15 @@
 // What a version store does: each call of a store, and the few steps that they share.
 ghost use mathlib.Core.Path.{_≡_};
 ghost use mathlib.Core.Bool.{cond};
-ghost use Prim.Native.Nat.{ℕ, _<_, _≤_};
+ghost use Prim.Native.Nat.{_<_, _≤_};
 ghost use lib.Dec.{eqb};
 ghost use lib.ListN.{replicate};
 ghost use Rattle.std.specs.Vec.{made};
 ghost use Rattle.std.specs.declared.option.Option.the-variants.{Some, None};
 ghost use Rattle.std.specs.declared.result.Result.the-variants.{Ok, Err};
-ghost use Rattle.stores.specs.Model.{StoreModel, place-at, begin-answer, with-place, spread};
+ghost use Rattle.stores.specs.Model.{place-at, begin-answer, with-place, spread};
 ghost use Rattle.versions.specs.Writes.{own-of};
-ghost use Rattle.versions.specs.Meaning.{HistoryModel, history-of, land-answer};
+ghost use Rattle.versions.specs.Meaning.{history-of, land-answer};
 ghost use Rattle.version_store.specs.Begun.{begun-of};
 ghost use Rattle.version_store.specs.Meaning.{meaning-of, place-of, seat-of};
 use crate::place::Place;

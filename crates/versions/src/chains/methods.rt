@@ -1,7 +1,6 @@
 // Reading a chain, and putting a version in front of it.
 ghost use mathlib.Core.Path.{_≡_};
-ghost use Prim.Native.Nat.{ℕ, _+_, _<_, _≤_};
-ghost use lib.ListN.{getD};
+ghost use Prim.Native.Nat.{_+_, _<_};
 ghost use Rattle.std.specs.Vec.{made};
 ghost use Rattle.versions.specs.Histories.{started, seen, current, newest, with-version};
 ghost use Rattle.versions.specs.Chained.{versions-of, size-of};

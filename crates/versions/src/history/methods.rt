@@ -1,14 +1,14 @@
 // Reading a history at a commit count, and committing own writes to it.
 ghost use mathlib.Core.Path.{_≡_};
 ghost use mathlib.Core.Bool.{true};
-ghost use Prim.Native.Nat.{ℕ, _+_, _≤_};
+ghost use Prim.Native.Nat.{_+_, _≤_};
 ghost use lib.ListN.{length};
 ghost use Rattle.std.specs.Vec.{made};
 ghost use Rattle.versions.specs.Pairs.{own-in, each-once};
 ghost use Rattle.versions.specs.Writes.{own-of};
-ghost use Rattle.versions.specs.Histories.{started, board-at, after-commit};
+ghost use Rattle.versions.specs.Histories.{started, after-commit};
 ghost use Rattle.versions.specs.Chained.{versions-of, size-of};
-ghost use Rattle.versions.specs.Meaning.{HistoryModel, history-of, value-in, clash-since, land-answer, land-after};
+ghost use Rattle.versions.specs.Meaning.{history-of, value-in, clash-since, land-answer, land-after};
 use crate::chains::Chains;
 use crate::history::History;
 use crate::history::MOST_COMMITS;

@@ -1,4 +1,4 @@
-use mathlib.Core.Path.{_≡_, ap, _∙_}
+use mathlib.Core.Path.{ap, _∙_}
 use Rattle.versions.specs.Writes.{own-of}
 use Rattle.versions.specs.Meaning.{history-of}
 use Rattle.version_store.specs.Meaning.{store-over}
