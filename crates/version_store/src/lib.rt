@@ -1,5 +1,5 @@
 // A store that keeps each committed value with the commit that it came from; a snapshot is only a count of commits.
-pub mod place;
+mod place;
 pub mod store;
 
 pub use store::VersionStore;

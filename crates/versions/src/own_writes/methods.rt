@@ -93,6 +93,7 @@ impl OwnWrites {
     pub fn first_from(&self, object: usize) -> Option<Pair>
         ensures answer { λ r. ⌜ r ≡ first-from (own-of (now (self .entry))) object (128 - object) ⌝ }
     {
+        // The pairs stand in no order.
         let mut lowest = None;
         for i in (0..self.count).rev() {
             lowest = lower(lowest, self.pairs[i], object);

@@ -7,7 +7,7 @@ use Rattle.versions.specs.Histories.{after-commit}
 use Rattle.versions.specs.Chained.{versions-of}
 use Rattle.versions.proofs.Pairs.{headed-at}
 use Rattle.versions.proofs.Commits.{commit-more, commit-end}
-use Rattle.versions.proofs.history.methods.add_all.Needs as need
+use Rattle.versions.proofs.history.commits.add_all.Needs as need
 
 pub add-requires : need.add-requires
 add-requires c κs =
