@@ -4,3 +4,6 @@ pub mod store;
 
 pub use store::VersionStore;
 pub use store::VersionStoreStore;
+
+#[cfg(test)]
+mod tests;

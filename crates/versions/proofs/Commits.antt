@@ -35,9 +35,9 @@ module _ (versions : ℕ → List Dated) (c : ℕ) (ps : List Pair) (once : each
   commit-end h = ap (λ l. after-commit versions c (own-in l)) (at-drop-all (λ l. l) ps i h)
 
 -- no version is from a commit to come
-newest-past : (c : ℕ) (o : Option ℕ) (h : List Dated) → newest h ≤ c → newest (newer (c + 1) o h) ≤ c + 1
-newest-past c None h l = omega arith
-newest-past c (Some v) h l = omega arith
+newest-past : (m n : ℕ) (o : Option ℕ) (h : List Dated) → n ≤ m → newest h ≤ m → newest (newer n o h) ≤ m
+newest-past m n None h l k = k
+newest-past m n (Some v) h l k = l
 
-pub still-past : (versions new : ℕ → List Dated) (c : ℕ) (own : ℕ → Option ℕ) → new ≡ after-commit versions (c + 1) own → ((j : ℕ) → newest (versions j) ≤ c) → (j : ℕ) → newest (new j) ≤ c + 1
-still-past versions new c own e past j = subst (λ v. newest (v j) ≤ c + 1) (sym e) (newest-past c (own j) (versions j) (past j))
+pub still-past : (versions new : ℕ → List Dated) (c n : ℕ) (own : ℕ → Option ℕ) → new ≡ after-commit versions n own → n ≤ c + 1 → ((j : ℕ) → newest (versions j) ≤ c) → (j : ℕ) → newest (new j) ≤ c + 1
+still-past versions new c n own e l past j = subst (λ v. newest (v j) ≤ c + 1) (sym e) (newest-past (c + 1) n (own j) (versions j) l (omega (arith, past j)))

@@ -19,6 +19,7 @@ unfoldable pub falling : List Version → Bool
 falling [] = true
 falling (v ∷ pool) = before (v .older) (length pool) && falling pool
 
+-- a version without its link
 abbrev pub dated : Version → Dated
 dated v = record { commit = v .commit; value = v .value }
 

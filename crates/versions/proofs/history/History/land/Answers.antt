@@ -11,6 +11,6 @@ ghost-self c =
       omega (arith, h .few, c .if-self-eq-MOST-COMMITS .left),
       (
         omega (arith, h .sized, e .size, c .pairs .ensures .few),
-        (still-past (versions-of (h .chains)) (versions-of (c .add-all .last .chains)) (h .commits) (own-in (c .pairs .result .now)) (e .versions) (h .past), tt),
+        (still-past (versions-of (h .chains)) (versions-of (c .add-all .last .chains)) (h .commits) _ (own-in (c .pairs .result .now)) (e .versions) (omega arith) (h .past), tt),
       ),
     )
