@@ -1,8 +1,8 @@
 -- What a commit does to a version store: it plays its writes over the board, and overtakes their objects at every place. Assumes nothing.
-use mathlib.Core.Path.{_≡_, refl, sym, ap, _∙_}
+use mathlib.Core.Path.{_≡_, refl}
 use mathlib.Core.Bool.{Bool, true, false, cond}
 use mathlib.Core.List.{List, [], _∷_, map}
-use Prim.Native.Nat.{ℕ, suc, _+_, _≤_, _<_}
+use Prim.Native.Nat.{ℕ, suc, _+_, _≤_}
 use native.Mathlib.Omega.{arith}
 use lib.Dec.{eqb}
 use lib.ListN.{getD}
@@ -12,7 +12,7 @@ use Rattle.std.specs.declared.option.Option.the-variants.{Some, None}
 use Rattle.stores.specs.Model.{overtaken-by, spread}
 use Rattle.versions.specs.Writes.{own-of}
 use Rattle.versions.specs.Histories.{newest, after-commit}
-use Rattle.versions.specs.Kept.{HistoryModel, land-after}
+use Rattle.versions.specs.Meaning.{HistoryModel, land-after}
 use Rattle.versions.proofs.Histories.{board-before, board-after, since-after}
 use Rattle.version_store.specs.declared.place.Place.{Place}
 use Rattle.version_store.specs.Begun.{begun-of}

@@ -1,19 +1,19 @@
 -- The places of a version store, by their seats. Assumes nothing.
-use mathlib.Core.Path.{_≡_, refl, sym, ap, subst, _∙_}
+use mathlib.Core.Path.{_≡_, refl, subst, _∙_}
 use Prim.Native.Nat.{ℕ, _≤_, _<_}
 use native.Mathlib.Omega.{arith}
 use lib.ListN.{getD, set}
 use Rattle.std.specs.declared.option.Option.{Option}
-use Rattle.std.specs.declared.option.Option.the-variants.{Some, None}
+use Rattle.std.specs.declared.option.Option.the-variants.{None}
 use Rattle.std.specs.declared.result.Result.{Result}
-use Rattle.std.specs.declared.result.Result.the-variants.{Ok, Err}
+use Rattle.std.specs.declared.result.Result.the-variants.{Err}
 use Rattle.std.proofs.shelf.Lists.{getD-default}
 use Rattle.stores.specs.declared.fault.StoreFault.{StoreFault}
 use Rattle.stores.specs.declared.fault.StoreFault.the-variants.{NoPlace}
 use Rattle.stores.specs.Model as model
 use Rattle.stores.specs.Model.{seat-at, with-place}
 use Rattle.stores.proofs.Seats.{seat-none, seat-is, with-seat}
-use Rattle.versions.specs.Kept.{history-of}
+use Rattle.versions.specs.Meaning.{history-of}
 use Rattle.version_store.specs.declared.place.Place.{Place}
 use Rattle.version_store.specs.declared.store.VersionStore.{VersionStore}
 use Rattle.version_store.specs.Begun.{begun-of}

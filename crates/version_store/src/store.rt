@@ -3,12 +3,17 @@ ghost use mathlib.Core.Path.{_≡_};
 ghost use Prim.Native.Nat.{ℕ, _≤_};
 ghost use lib.ListN.{length, getD};
 ghost use Rattle.std.specs.declared.option.Option.the-variants.{None};
-ghost use Rattle.versions.specs.Kept.{HistoryModel, history-of};
+ghost use Rattle.versions.specs.Meaning.{history-of};
 ghost use Rattle.version_store.specs.Begun.{begun-of};
 use crate::place::Place;
 use versions::History;
 
-pub mod methods;
+mod methods;
+
+pub use methods::VersionStoreStore;
+
+/// How many places there are.
+pub const PLACES: usize = 16;
 
 // No place began at a commit to come.
 #[derive(Drop)]

@@ -1,7 +1,7 @@
 -- The versions that the pairs of a commit leave, one pair after another. Assumes nothing.
-use mathlib.Core.Path.{_≡_, refl, sym, ap, _∙_}
+use mathlib.Core.Path.{_≡_, refl, sym, ap, subst, _∙_}
 use mathlib.Core.Bool.{Bool, true, false, cond}
-use mathlib.Core.List.{List, [], _∷_}
+use mathlib.Core.List.{List, _∷_}
 use Prim.Native.Nat.{ℕ, _+_, _≤_, _<_}
 use native.Mathlib.Omega.{arith}
 use lib.Dec.{eqb}
@@ -13,7 +13,7 @@ use Rattle.std.proofs.shelf.Tests.{eqb-true}
 use Rattle.tickets.specs.declared.pair.Pair.{Pair}
 use Rattle.versions.specs.Pairs.{own-in, each-once, no-pair}
 use Rattle.versions.specs.Histories.{Dated, newest, newer, with-version, after-commit}
-use Rattle.versions.proofs.Pairs.{Headed, headed, headed-at}
+use Rattle.versions.proofs.Pairs.{headed-at}
 
 one-more : (b : Bool) (c v : ℕ) (o : Option ℕ) (h : List Dated) → (b ≡ true → o ≡ None) → newer c o (cond b (record { commit = c; value = v } ∷ h) h) ≡ newer c (cond b (Some v) o) h
 one-more true c v o h n = ap (λ o. newer c o (record { commit = c; value = v } ∷ h)) (n refl)
@@ -35,6 +35,9 @@ module _ (versions : ℕ → List Dated) (c : ℕ) (ps : List Pair) (once : each
   commit-end h = ap (λ l. after-commit versions c (own-in l)) (at-drop-all (λ l. l) ps i h)
 
 -- no version is from a commit to come
-pub newest-past : (c : ℕ) (o : Option ℕ) (h : List Dated) → newest h ≤ c → newest (newer (c + 1) o h) ≤ c + 1
-newest-past c None h l = omega arith
-newest-past c (Some v) h l = omega arith
+newest-past : (m n : ℕ) (o : Option ℕ) (h : List Dated) → n ≤ m → newest h ≤ m → newest (newer n o h) ≤ m
+newest-past m n None h l k = k
+newest-past m n (Some v) h l k = l
+
+pub still-past : (versions new : ℕ → List Dated) (c n : ℕ) (own : ℕ → Option ℕ) → new ≡ after-commit versions n own → n ≤ c + 1 → ((j : ℕ) → newest (versions j) ≤ c) → (j : ℕ) → newest (new j) ≤ c + 1
+still-past versions new c n own e l past j = subst (λ v. newest (v j) ≤ c + 1) (sym e) (newest-past (c + 1) n (own j) (versions j) l (omega (arith, past j)))

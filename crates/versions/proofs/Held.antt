@@ -1,7 +1,6 @@
 -- The pairs that own writes hold: those below their count. Assumes nothing.
-use mathlib.Core.Path.{_≡_, refl, sym, ap, subst, _∙_}
-use mathlib.Core.Bool.{Bool, true, false, cond, _||_}
-use mathlib.Core.List.{List, [], _∷_, _++_}
+use mathlib.Core.Path.{_≡_, sym, ap, subst, _∙_}
+use mathlib.Core.Bool.{true, false}
 use mathlib.Core.Logic.{⊎-elim}
 use Prim.Native.Nat.{ℕ, _+_, _-_, _≤_, _<_}
 use native.Mathlib.Omega.{arith}
@@ -18,7 +17,7 @@ use Rattle.stores.specs.declared.fault.StoreFault.the-variants.{NinthObject}
 use Rattle.stores.specs.Model.{with-write, first-from}
 use Rattle.tickets.specs.declared.pair.Pair.{Pair}
 use Rattle.versions.specs.declared.own_writes.OwnWrites.{OwnWrites}
-use Rattle.versions.specs.Pairs.{own-in, each-once, no-pair, lower-from}
+use Rattle.versions.specs.Pairs.{own-in, no-pair, lower-from}
 use Rattle.versions.specs.Writes.{own-of, count-of, set-own, held}
 use Rattle.versions.proofs.Pairs.{Wrote, headed-at, none-past, own-head, own-at, write-new, write-over}
 use Rattle.versions.proofs.Counts.{count-is}
@@ -46,12 +45,12 @@ module _ (w : OwnWrites) where
   pub held-below : (j v : ℕ) → own-of w j ≡ Some v → j < 128
   held-below j v e = ⊎-elim (λ l. l) (λ l. absurd (never (own-of w j) v e (held-past j l))) (cases-lt j 128)
 
-  -- the write at place i
+  -- the write at index i
   pub held-own : (i j : ℕ) → i < w .count → getD (w .pairs) i no-pair .object ≡ j → own-of w j ≡ Some (getD (w .pairs) i no-pair .value)
   held-own i j h e =
       ap (own-in (held w)) (sym (ap (λ (p : Pair). p .object) (held-at i h) ∙ e)) ∙ own-at (held w) i (w .once) (omega (arith, held-length)) ∙ ap (λ (p : Pair). Some (p .value)) (held-at i h)
 
-  -- the lowest write from object j on, among the pairs from place i on and among those past it
+  -- the lowest write from object j on, among the pairs from index i on and among those past it
   pub held-lowest : (i j : ℕ) → i < w .count
       → first-from (own-in (drop i (held w))) j (128 - j) ≡ lower-from j (first-from (own-in (drop (i + 1) (held w))) j (128 - j)) (getD (w .pairs) i no-pair)
   held-lowest i j h =
@@ -69,7 +68,7 @@ module _ (w : OwnWrites) where
   held-no-lowest j = at-drop-all (λ l. first-from (own-in l) j (128 - j)) (held w) (w .count) (omega (arith, held-length)) ∙ first-none j (128 - j)
 
   module _ (q : Pair) where
-    -- a pair put over the one at place i
+    -- a pair put over the one at index i
     pub held-over : (i : ℕ) → i < w .count → getD (w .pairs) i no-pair .object ≡ q .object → Wrote (held w) q (take (w .count) (set (w .pairs) i q))
     held-over i h e =
         subst (Wrote (held w) q) (sym (take-set-lt (w .count) (w .pairs) i q h))

@@ -1,18 +1,17 @@
 -- What the versions of the objects say, and what a commit adds. Assumes nothing.
 use mathlib.Core.Path.{_≡_, refl, sym, ap, _∙_}
-use mathlib.Core.Bool.{Bool, true, false, cond, _||_}
-use mathlib.Core.List.{List, [], _∷_, map}
+use mathlib.Core.Bool.{Bool, true, false, _||_}
+use mathlib.Core.List.{List, [], _∷_}
 use Prim.Native.Nat.{ℕ, _+_, _≤_, _<_}
 use native.Mathlib.Omega.{arith}
-use lib.Dec.{leb, ltb}
+use lib.Dec.{ltb}
 use lib.ListN.{length, getD}
-use Rattle.std.specs.Iters.{counting}
 use Rattle.std.specs.Options.{isSome}
 use Rattle.std.specs.declared.option.Option.{Option}
 use Rattle.std.specs.declared.option.Option.the-variants.{Some, None}
 use Rattle.std.proofs.shelf.Counted.{length-map-counting, getD-map-counting}
 use Rattle.std.proofs.shelf.Lists.{ext-getD}
-use Rattle.std.proofs.shelf.Tests.{le-leb, lt-leb, lt-ltb, le-ltb, cond-true, cond-false, or-right}
+use Rattle.std.proofs.shelf.Tests.{le-leb, lt-leb, lt-ltb, cond-true, cond-false, or-right}
 use Rattle.stores.specs.Model.{orElse, played}
 use Rattle.stores.proofs.Steps.{length-played, getD-played}
 use Rattle.versions.specs.Histories.{Dated, current, newest, seen, board-at, written-since, first, started, newer, after-commit}

@@ -1,18 +1,18 @@
--- Chains of versions: one version more in the pool, and the version at a place. Assumes nothing.
+-- Chains of versions: one version more in the pool, and the version at an index. Assumes nothing.
 use mathlib.Core.Path.{_≡_, refl, sym, ap, subst, _∙_}
-use mathlib.Core.Bool.{Bool, true, false, cond, _&&_}
+use mathlib.Core.Bool.{true, false}
 use mathlib.Core.List.{List, [], _∷_, _++_, reverse}
 use mathlib.Core.Logic.{⊎-elim}
-use Prim.Native.Nat.{ℕ, zero, suc, _+_, _≤_, _<_}
+use Prim.Native.Nat.{ℕ, _+_, _≤_, _<_}
 use native.Mathlib.Omega.{arith}
-use lib.Dec.{eqb, ltb}
+use lib.Dec.{eqb}
 use lib.ListN.{length, getD}
 use Rattle.std.specs.declared.option.Option.{Option}
 use Rattle.std.specs.declared.option.Option.the-variants.{Some, None}
 use Rattle.std.proofs.shelf.Lists.{reverse-append, length-reverse, getD-push, getD-append-left}
 use Rattle.std.proofs.shelf.Tests.{lt-ltb, ltb-true, eq-eqb, ne-eqb, and-parts, and-from, cases-eq}
 use Rattle.versions.specs.declared.version.Version.{Version}
-use Rattle.versions.specs.Histories.{Dated, first}
+use Rattle.versions.specs.Histories.{first}
 use Rattle.versions.specs.Links.{before, falling, dated, chain, height}
 
 pub before-more : (link : Option ℕ) (m n : ℕ) → m ≤ n → before link m ≡ true → before link n ≡ true
@@ -47,7 +47,7 @@ pub chain-top : (x : ℕ) (v : Version) (pool : List Version) (i : ℕ) → i �
 unfolding chain
 chain-top x v pool i e = let n : eqb i (length pool) ≡ true = eq-eqb i _ e in rw n
 
--- the version at a place heads the chain there, and its link leads below the place
+-- the version at an index heads the chain there, and its link leads below it
 pub record Heads (x : ℕ) (pool : List Version) (i : ℕ) (v : Version) : Type 0 where
   pub chained : chain x pool (Some i) ≡ dated v ∷ chain x pool (v .older)
   pub links : before (v .older) i ≡ true
@@ -59,17 +59,17 @@ heads-at x (u ∷ pool) i d f h =
     let flip : reverse (u ∷ pool) ≡ reverse pool ++ u ∷ [] = reverse-append (u ∷ []) pool in
     ⊎-elim
     (λ q.
-      let at : u ≡ getD (reverse (u ∷ pool)) i d = sym (ap (λ l. getD l i d) flip ∙ getD-push (reverse pool) u d i (length-reverse pool ∙ sym q)) in
-      subst (Heads x (u ∷ pool) i) at
-      (record { chained = chain-top x u pool i q ∙ ap (λ c. dated u ∷ c) (sym (chain-below x u pool (u .older) (p .0))); links = subst (λ n. before (u .older) n ≡ true) (sym q) (p .0) }))
+    let at : u ≡ getD (reverse (u ∷ pool)) i d = sym (ap (λ l. getD l i d) flip ∙ getD-push (reverse pool) u d i (length-reverse pool ∙ sym q)) in
+    subst (Heads x (u ∷ pool) i) at
+    (record { chained = chain-top x u pool i q ∙ ap (λ c. dated u ∷ c) (sym (chain-below x u pool (u .older) (p .0))); links = subst (λ n. before (u .older) n ≡ true) (sym q) (p .0) }))
     (λ ne.
-      let l : i < length pool = omega (arith, ne) in
-      let v = getD (reverse pool) i d in
-      let at : v ≡ getD (reverse (u ∷ pool)) i d = sym (ap (λ l. getD l i d) flip ∙ getD-append-left (reverse pool) (u ∷ []) d i (omega (arith, length-reverse pool))) in
-      let r = heads-at x pool i d (p .1) l in
-      subst (Heads x (u ∷ pool) i) at
-      (record {
-        chained = chain-below x u pool (Some i) (lt-ltb i _ l) ∙ r .chained ∙ ap (λ c. dated v ∷ c) (sym (chain-below x u pool (v .older) (before-more (v .older) i _ (omega arith) (r .links))));
-        links = r .links;
-      }))
+    let l : i < length pool = omega (arith, ne) in
+    let v = getD (reverse pool) i d in
+    let at : v ≡ getD (reverse (u ∷ pool)) i d = sym (ap (λ l. getD l i d) flip ∙ getD-append-left (reverse pool) (u ∷ []) d i (omega (arith, length-reverse pool))) in
+    let r = heads-at x pool i d (p .1) l in
+    subst (Heads x (u ∷ pool) i) at
+    (record {
+      chained = chain-below x u pool (Some i) (lt-ltb i _ l) ∙ r .chained ∙ ap (λ c. dated v ∷ c) (sym (chain-below x u pool (v .older) (before-more (v .older) i _ (omega arith) (r .links))));
+      links = r .links;
+    }))
     (cases-eq i (length pool))

@@ -1,12 +1,10 @@
 -- The lowest write from an object on, where one write more comes in. Assumes nothing.
 use mathlib.Core.Path.{_≡_, refl, sym, ap, _∙_}
-use mathlib.Core.Bool.{Bool, true, false, cond}
-use mathlib.Core.List.{List, [], _∷_}
+use mathlib.Core.Bool.{true, false}
 use mathlib.Core.Logic.{⊎-elim}
 use Prim.Native.Nat.{ℕ, zero, suc, _+_, _-_, _≤_, _<_}
 use native.Mathlib.Omega.{arith}
 use lib.Dec.{eqb, ltb}
-use Rattle.std.specs.Options.{isSome}
 use Rattle.std.specs.declared.option.Option.{Option}
 use Rattle.std.specs.declared.option.Option.the-variants.{Some, None}
 use Rattle.std.proofs.shelf.Tests.{cases-eq, cases-lt, eq-eqb, ne-eqb, lt-ltb, le-ltb}
@@ -48,14 +46,14 @@ first-with own p j (suc n) e l h =
     let rest = first-from own (j + 1) n in
     ⊎-elim
     (λ q.
-      let b : eqb j (p .object) ≡ true = eq-eqb _ _ q in
-      let s : own j ≡ None = ap own q ∙ e in
-      rw (b, s) (ap (λ k. Some (record { object = k; value = p .value })) q ∙ sym (lower-first own p (j + 1) n (omega arith))))
+    let b : eqb j (p .object) ≡ true = eq-eqb _ _ q in
+    let s : own j ≡ None = ap own q ∙ e in
+    rw (b, s) (ap (λ k. Some (record { object = k; value = p .value })) q ∙ sym (lower-first own p (j + 1) n (omega arith))))
     (λ ne.
-      let b : eqb j (p .object) ≡ false = ne-eqb _ _ ne in
-      rw (b, first-with own p (j + 1) n e (omega (arith, ne)) (omega arith)) (told-lower p j (own j) rest (omega (arith, ne))))
+    let b : eqb j (p .object) ≡ false = ne-eqb _ _ ne in
+    rw (b, first-with own p (j + 1) n e (omega (arith, ne)) (omega arith)) (told-lower p j (own j) rest (omega (arith, ne))))
     (cases-eq j (p .object))
 
 pub first-more : (own : ℕ → Option ℕ) (p : Pair) (j : ℕ) → own (p .object) ≡ None → p .object < 128 → first-from (with-write own (p .object) (p .value)) j (128 - j) ≡ lower-from j (first-from own j (128 - j)) p
-first-more own p j e h = 
+first-more own p j e h =
     ⊎-elim (λ l. let f = first-past own p j (128 - j) l in grind (arith, tells)) (λ l. let f = first-with own p j (128 - j) e l (omega arith) in grind (arith, tells)) (cases-lt (p .object) j)

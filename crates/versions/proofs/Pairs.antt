@@ -1,10 +1,10 @@
 -- Own writes as pairs: one pair is looked at, put in or put over. Assumes nothing.
 use mathlib.Core.Path.{_≡_, refl, sym, ap, _∙_}
-use mathlib.Core.Bool.{Bool, true, false, not, cond, _&&_}
+use mathlib.Core.Bool.{Bool, true, false, not, cond}
 use mathlib.Core.List.{List, [], _∷_, _++_}
 use Prim.Native.Nat.{ℕ, zero, suc, _+_, _≤_, _<_}
 use native.Mathlib.Omega.{arith}
-use lib.Dec.{eqb, ltb}
+use lib.Dec.{eqb}
 use lib.ListN.{length, getD, set, drop}
 use Rattle.std.specs.Options.{isSome}
 use Rattle.std.specs.declared.option.Option.{Option}
@@ -43,7 +43,7 @@ once-drop zero ps e = e
 once-drop (suc i) [] e = e
 once-drop (suc i) (p ∷ ps) e = once-drop i ps (headed p ps e .rest)
 
--- the pair at place i, and those past it
+-- the pair at index i, and those past it
 pub headed-at : (ps : List Pair) → each-once ps ≡ true → (i : ℕ) → i < length ps → Headed (getD ps i no-pair) (drop (i + 1) ps)
 headed-at ps e i h = headed _ _ (sym (at-drop-more each-once ps i no-pair h) ∙ once-drop i ps e)
 
@@ -63,7 +63,7 @@ own-head p ps = refl
 apart : (own : ℕ → Option ℕ) (j k v : ℕ) → own j ≡ Some v → own k ≡ None → j ≡ k → ⊥
 apart own j k v e n q = let f : own j ≡ own k = ap own q in let z : _≡_ {A = ℕ} 0 1 = cc in omega arith
 
--- the write of the pair that stands at i
+-- the write of the pair at index i
 pub own-at : (ps : List Pair) (i : ℕ) → each-once ps ≡ true → i < length ps → own-in ps (getD ps i no-pair .object) ≡ Some (getD ps i no-pair .value)
 unfolding own-in
 own-at [] i e h = absurd (omega arith)

@@ -1,4 +1,4 @@
--- The versions of each object, newest first, and what they say of the board after a commit.
+-- The versions of each object, newest first, and what they say of the board after a commit. Every object has one.
 use mathlib.Core.Bool.{Bool, cond}
 use mathlib.Core.List.{List, [], _∷_, map}
 use Prim.Native.Nat.{ℕ}
@@ -36,10 +36,11 @@ board-at versions c = map (λ j. seen (versions j) c) (counting 0 128)
 abbrev pub written-since : (ℕ → List Dated) → ℕ → ℕ → Bool
 written-since versions c = λ j. ltb c (newest (versions j))
 
--- before the first commit each object has one version, with its value at the start
+-- the one version that an object has before the first commit: its value at the start
 abbrev pub first : ℕ → List Dated
 first x = record { commit = 0; value = x } ∷ []
 
+-- the versions of a board that no commit has written
 abbrev pub started : List ℕ → ℕ → List Dated
 started start = λ j. first (getD start j 0)
 
@@ -47,10 +48,11 @@ started start = λ j. first (getD start j 0)
 abbrev pub with-version : (ℕ → List Dated) → ℕ → ℕ → ℕ → ℕ → List Dated
 with-version versions j c v = λ k. cond (eqb k j) (record { commit = c; value = v } ∷ versions k) (versions k)
 
+-- the versions of an object after commit c, which wrote v or nothing to it
 abbrev pub newer : ℕ → Option ℕ → List Dated → List Dated
 newer c (Some v) older = record { commit = c; value = v } ∷ older
 newer c None older = older
 
--- the versions after commit c, which made these writes
+-- the versions of all objects after commit c, which made these writes
 abbrev pub after-commit : (ℕ → List Dated) → ℕ → (ℕ → Option ℕ) → ℕ → List Dated
 after-commit versions c own = λ j. newer c (own j) (versions j)

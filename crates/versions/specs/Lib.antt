@@ -3,4 +3,4 @@ pub mod Writes
 pub mod Histories
 pub mod Links
 pub mod Chained
-pub mod Kept
+pub mod Meaning

@@ -1,4 +1,4 @@
--- Chains of versions in a pool, which is given newest first: a version's place is the number of those behind it.
+-- Chains of versions in a pool, which is given newest first: a version's index is the number of those behind it.
 use mathlib.Core.Bool.{Bool, true, cond, _&&_}
 use mathlib.Core.List.{List, [], _∷_}
 use Prim.Native.Nat.{ℕ, _+_}
@@ -9,7 +9,7 @@ use Rattle.std.specs.declared.option.Option.the-variants.{Some, None}
 use Rattle.versions.specs.declared.version.Version.{Version}
 use Rattle.versions.specs.Histories.{Dated, first}
 
--- a link leads to a place below n, or nowhere
+-- a link leads to an index below n, or nowhere
 abbrev pub before : Option ℕ → ℕ → Bool
 before None n = true
 before (Some i) n = ltb i n
@@ -19,6 +19,7 @@ unfoldable pub falling : List Version → Bool
 falling [] = true
 falling (v ∷ pool) = before (v .older) (length pool) && falling pool
 
+-- a version without its link
 abbrev pub dated : Version → Dated
 dated v = record { commit = v .commit; value = v .value }
 

@@ -1,17 +1,18 @@
 -- Own writes as a list of pairs.
-use mathlib.Core.Bool.{Bool, true, false, not, cond, _&&_}
-use mathlib.Core.List.{List, [], _∷_}
+use mathlib.Core.Bool.{Bool, true, not, cond, _&&_}
+use mathlib.Core.List.{List, [], _∷_, map}
 use Prim.Native.Nat.{ℕ}
-use lib.Dec.{eqb, ltb}
+use lib.Dec.{ltb}
 use Rattle.std.specs.Options.{isSome}
 use Rattle.std.specs.declared.option.Option.{Option}
 use Rattle.std.specs.declared.option.Option.the-variants.{Some, None}
+use Rattle.tickets.specs.WriteSets.{lookup}
+use Rattle.tickets.specs.Meaning.{pair-of}
 use Rattle.tickets.specs.declared.pair.Pair.{Pair}
 
 -- what the pairs write to object j, if anything
 unfoldable pub own-in : List Pair → ℕ → Option ℕ
-own-in [] j = None
-own-in (p ∷ ps) j = cond (eqb j (p .object)) (Some (p .value)) (own-in ps j)
+own-in ps = lookup (map pair-of ps)
 
 -- every object lies below 128 and stands once
 unfoldable pub each-once : List Pair → Bool

@@ -19,6 +19,7 @@ use Rattle.versions.specs.Pairs.{own-in}
 abbrev pub held : OwnWrites → List Pair
 held w = take (w .count) (w .pairs)
 
+-- own writes mean what their pairs write
 abbrev pub own-of : OwnWrites → ℕ → Option ℕ
 own-of w = own-in (held w)
 

@@ -9,7 +9,10 @@ ghost use Rattle.std.specs.declared.option.Option.the-variants.{None};
 ghost use Rattle.versions.specs.Links.{before, falling};
 use crate::version::Version;
 
-pub mod methods;
+mod methods;
+
+// The most versions: eight from each of 256 commits.
+const MOST_VERSIONS: usize = 2048;
 
 // Every link leads to a version that came into the pool before; the chain's end is the value at the start.
 #[derive(Drop)]

@@ -4,7 +4,11 @@ ghost use Rattle.versions.specs.Histories.{newest};
 ghost use Rattle.versions.specs.Chained.{versions-of, size-of};
 use crate::chains::Chains;
 
-pub mod methods;
+mod commits;
+mod reads;
+
+/// The most commits that write.
+pub const MOST_COMMITS: u32 = 256;
 
 // No version is from a commit to come.
 #[derive(Drop)]

@@ -3,5 +3,6 @@ mod chains;
 pub mod history;
 pub mod own_writes;
 mod version;
+
 pub use history::History;
 pub use own_writes::OwnWrites;

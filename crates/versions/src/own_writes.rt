@@ -6,7 +6,7 @@ ghost use lib.ListN.{length, take};
 ghost use Rattle.versions.specs.Pairs.{each-once};
 use tickets::Pair;
 
-pub mod methods;
+mod methods;
 
 // The pairs past the count are of no account.
 #[derive(Clone, Copy)]

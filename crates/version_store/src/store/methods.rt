@@ -1,18 +1,19 @@
 // What a version store does: each call of a store, and the few steps that they share.
 ghost use mathlib.Core.Path.{_≡_};
 ghost use mathlib.Core.Bool.{cond};
-ghost use Prim.Native.Nat.{ℕ, _<_, _≤_};
+ghost use Prim.Native.Nat.{_<_, _≤_};
 ghost use lib.Dec.{eqb};
 ghost use lib.ListN.{replicate};
 ghost use Rattle.std.specs.Vec.{made};
 ghost use Rattle.std.specs.declared.option.Option.the-variants.{Some, None};
 ghost use Rattle.std.specs.declared.result.Result.the-variants.{Ok, Err};
-ghost use Rattle.stores.specs.Model.{StoreModel, place-at, begin-answer, with-place, spread};
+ghost use Rattle.stores.specs.Model.{place-at, begin-answer, with-place, spread};
 ghost use Rattle.versions.specs.Writes.{own-of};
-ghost use Rattle.versions.specs.Kept.{HistoryModel, history-of, land-answer};
+ghost use Rattle.versions.specs.Meaning.{history-of, land-answer};
 ghost use Rattle.version_store.specs.Begun.{begun-of};
 ghost use Rattle.version_store.specs.Meaning.{meaning-of, place-of, seat-of};
 use crate::place::Place;
+use crate::store::PLACES;
 use crate::store::VersionStore;
 use std::alloc::AllocError;
 use std::alloc::Global;
@@ -22,15 +23,16 @@ use tickets::Pair;
 use versions::History;
 use versions::OwnWrites;
 
-pub const PLACES: usize = 16;
-
 impl VersionStore {
     /// A store of these values, with no commit and no open place; all memory is reserved here.
     pub fn new(heap: Global, values: [u32; 128]) -> Result<VersionStore, AllocError>
         ensures answer { λ r. ⌜ made r (λ s. meaning-of s ≡ record { board = values; commits = 0; most = 256; places = replicate 16 None }) ⌝ }
     {
         let history = History::new(heap, values)?;
-        Ok(VersionStore { history, places: [None; 16] })
+        Ok(VersionStore {
+            history,
+            places: [None; 16],
+        })
     }
 
     // The place, where it is open.
@@ -85,7 +87,13 @@ pub impl Store for VersionStore as VersionStoreStore {
     fn begin(&mut self, place: usize) -> Result<(), StoreFault> {
         self.vacant(place)?;
         let begun = self.history.commits();
-        self.put(place, Some(Place { begun, own: OwnWrites::none() }));
+        self.put(
+            place,
+            Some(Place {
+                begun,
+                own: OwnWrites::none(),
+            }),
+        );
         Ok(())
     }
 
@@ -93,7 +101,9 @@ pub impl Store for VersionStore as VersionStoreStore {
         let open = self.at(place)?;
         match open.own.get(object) {
             Some(value) => Ok(value),
-            None => self.history.value_at(object, open.begun).ok_or(StoreFault::NoObject),
+            None => self.history
+                .value_at(object, open.begun)
+                .ok_or(StoreFault::NoObject),
         }
     }
 

@@ -1,24 +1,25 @@
 // Reading a chain, and putting a version in front of it.
 ghost use mathlib.Core.Path.{_≡_};
-ghost use Prim.Native.Nat.{ℕ, _+_, _<_, _≤_};
-ghost use lib.ListN.{getD};
+ghost use Prim.Native.Nat.{_+_, _<_};
 ghost use Rattle.std.specs.Vec.{made};
 ghost use Rattle.versions.specs.Histories.{started, seen, current, newest, with-version};
 ghost use Rattle.versions.specs.Chained.{versions-of, size-of};
 use crate::chains::Chains;
+use crate::chains::MOST_VERSIONS;
 use crate::version::Version;
 use std::alloc::AllocError;
 use std::alloc::Global;
-
-// The most versions: eight from each of 256 commits.
-pub const MOST_VERSIONS: usize = 2048;
 
 impl Chains {
     pub fn new(heap: Global, start: [u32; 128]) -> Result<Chains, AllocError>
         ensures { λ r. ⌜ made r (λ s. (versions-of s ≡ started start) × (size-of s ≡ 0)) ⌝ }
     {
         let pool = Vec::with_capacity(heap, MOST_VERSIONS)?;
-        Ok(Chains { start, newest: [None; 128], pool })
+        Ok(Chains {
+            start,
+            newest: [None; 128],
+            pool,
+        })
     }
 
     // The newest version of an object; from before the first commit, its value at the start.
@@ -28,8 +29,12 @@ impl Chains {
         ensures value { λ r. ⌜ r .value ≡ current (versions-of (now (self .entry)) object) ⌝ }
     {
         match &self.newest[object] {
-            Some(place) => self.pool[*place],
-            None => Version { commit: 0, value: self.start[object], older: None },
+            Some(index) => self.pool[*index],
+            None => Version {
+                commit: 0,
+                value: self.start[object],
+                older: None,
+            },
         }
     }
 
@@ -39,8 +44,8 @@ impl Chains {
         ensures { λ r. ⌜ r ≡ seen (versions-of (now (self .entry)) object) count ⌝ }
     {
         let mut link = self.newest[object];
-        while let Some(place) = link {
-            let version = self.pool[place];
+        while let Some(index) = link {
+            let version = self.pool[index];
             if version.commit <= count {
                 return version.value;
             }
@@ -57,6 +62,10 @@ impl Chains {
     {
         let older = self.newest[object];
         self.newest[object] = Some(self.pool.len());
-        self.pool.push_reserved(Version { commit, value, older });
+        self.pool.push_reserved(Version {
+            commit,
+            value,
+            older,
+        });
     }
 }

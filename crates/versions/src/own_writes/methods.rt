@@ -1,9 +1,9 @@
 // Finding, setting, counting and telling own writes.
 ghost use mathlib.Core.Path.{_≡_};
-ghost use mathlib.Core.Bool.{true, cond};
-ghost use Prim.Native.Nat.{ℕ, _-_, _<_, _≤_};
+ghost use mathlib.Core.Bool.{true};
+ghost use Prim.Native.Nat.{_-_, _<_, _≤_};
 ghost use lib.ListN.{length, getD};
-ghost use Rattle.std.specs.Options.{isSome, Cases as BySome};
+ghost use Rattle.std.specs.Options.{Cases as BySome};
 ghost use Rattle.std.specs.declared.option.Option.the-variants.{Some, None};
 ghost use Rattle.std.specs.declared.result.Result.the-variants.{Ok, Err};
 ghost use Rattle.stores.specs.Model.{no-writes, first-from, done};
@@ -11,18 +11,22 @@ ghost use Rattle.versions.specs.Pairs.{each-once, no-pair, lower-from};
 ghost use Rattle.versions.specs.Writes.{own-of, held, count-of, set-own, own-left};
 use crate::own_writes::OwnWrites;
 use stores::StoreFault;
+use tickets::MOST_PAIRS;
 use tickets::OBJECTS;
 use tickets::Pair;
-
-/// The most objects that a place may write.
-pub const MOST_PAIRS: usize = 8;
 
 impl OwnWrites {
     /// No writes.
     pub fn none() -> OwnWrites
         ensures answer { λ r. ⌜ own-of r ≡ no-writes ⌝ }
     {
-        OwnWrites { pairs: [Pair { object: 0, value: 0 }; 8], count: 0 }
+        OwnWrites {
+            pairs: [Pair {
+                object: 0,
+                value: 0,
+            }; 8],
+            count: 0,
+        }
     }
 
     // The pairs, each object once.
@@ -89,6 +93,7 @@ impl OwnWrites {
     pub fn first_from(&self, object: usize) -> Option<Pair>
         ensures answer { λ r. ⌜ r ≡ first-from (own-of (now (self .entry))) object (128 - object) ⌝ }
     {
+        // The pairs stand in no order.
         let mut lowest = None;
         for i in (0..self.count).rev() {
             lowest = lower(lowest, self.pairs[i], object);

@@ -1,6 +1,6 @@
-use mathlib.Core.Path.{_≡_, ap, _∙_}
+use mathlib.Core.Path.{ap, _∙_}
 use Rattle.versions.specs.Writes.{own-of}
-use Rattle.versions.specs.Kept.{history-of}
+use Rattle.versions.specs.Meaning.{history-of}
 use Rattle.version_store.specs.Meaning.{store-over}
 use Rattle.version_store.proofs.Landing.{store-lands}
 use Rattle.version_store.proofs.store.VersionStore.land.Needs as need

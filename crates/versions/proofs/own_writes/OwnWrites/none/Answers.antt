@@ -4,7 +4,7 @@ use Rattle.versions.specs.Pairs.{own-in, each-once}
 use Rattle.versions.proofs.own_writes.OwnWrites.none.Needs as need
 
 pub ghost-result : need.ghost-result
-unfolding each-once
+unfolding own-in each-once
 ghost-result c = search needs
 
 pub returns : need.returns

@@ -1,11 +1,11 @@
-use mathlib.Core.Path.{_≡_, sym, ap, _∙_}
+use mathlib.Core.Path.{sym, ap, _∙_}
 use Prim.Native.Nat.{_<_}
 use native.Mathlib.Omega.{arith}
 use Rattle.std.specs.Options.{isSome}
 use Rattle.std.proofs.shelf.Lists.{length-set}
 use Rattle.stores.specs.Model.{done}
 use Rattle.tickets.specs.declared.pair.Pair.{Pair}
-use Rattle.versions.specs.Writes.{own-of, own-left, held}
+use Rattle.versions.specs.Writes.{own-of, own-left}
 use Rattle.versions.proofs.Held.{held-own, held-over, held-new, set-over, set-new, set-ninth}
 use Rattle.versions.proofs.own_writes.OwnWrites.set.Needs as need
 

@@ -3,7 +3,7 @@ use Rattle.std.specs.Options.{isSome}
 use Rattle.std.specs.declared.option.Option.{Option}
 use Rattle.std.specs.declared.option.Option.the-variants.{Some, None}
 use Rattle.std.specs.declared.result.Result.the-variants.{Ok}
-use Rattle.versions.specs.Kept.{HistoryModel, history-of}
+use Rattle.versions.specs.Meaning.{HistoryModel, history-of}
 use Rattle.version_store.specs.declared.place.Place.{Place}
 use Rattle.version_store.specs.Meaning.{seat-of}
 use Rattle.version_store.proofs.Seated.{no-seat, seated}

@@ -1,5 +1,5 @@
 use borrow.Author.Needs.{needs}
-use mathlib.Core.Path.{_≡_, sym, _∙_}
+use mathlib.Core.Path.{sym}
 use Prim.Native.Nat.{_<_}
 use Rattle.versions.proofs.Held.{held-below}
 use Rattle.version_store.proofs.store.methods.VersionStoreStore.read.Needs as need

@@ -1,7 +1,6 @@
-use mathlib.Core.Path.{_≡_, refl, sym, ap, subst, _∙_}
-use mathlib.Core.List.{map}
+use mathlib.Core.Path.{_≡_, sym, subst, _∙_}
 use mathlib.Core.Logic.{⊎-elim}
-use Prim.Native.Nat.{ℕ, _≤_, _<_}
+use Prim.Native.Nat.{ℕ}
 use native.Mathlib.Omega.{arith}
 use lib.ListN.{length, getD}
 use Rattle.std.specs.declared.option.Option.{Option}
@@ -9,7 +8,7 @@ use Rattle.std.specs.declared.option.Option.the-variants.{Some, None}
 use Rattle.std.proofs.shelf.Lists.{length-map, getD-map, getD-past}
 use Rattle.std.proofs.shelf.Tests.{cases-lt}
 use Rattle.stores.specs.Model.{OwnLawful}
-use Rattle.versions.specs.Kept.{HistoryModel, history-of}
+use Rattle.versions.specs.Meaning.{HistoryModel, history-of}
 use Rattle.versions.proofs.Histories.{length-board-at}
 use Rattle.versions.proofs.Held.{held-few, held-past}
 use Rattle.version_store.specs.declared.place.Place.{Place}

@@ -1,25 +1,22 @@
-// Reading a history at a commit count, and committing own writes to it.
+// Making a history, and committing own writes to it.
 ghost use mathlib.Core.Path.{_≡_};
 ghost use mathlib.Core.Bool.{true};
-ghost use Prim.Native.Nat.{ℕ, _+_, _≤_};
+ghost use Prim.Native.Nat.{_+_, _≤_};
 ghost use lib.ListN.{length};
 ghost use Rattle.std.specs.Vec.{made};
 ghost use Rattle.versions.specs.Pairs.{own-in, each-once};
 ghost use Rattle.versions.specs.Writes.{own-of};
-ghost use Rattle.versions.specs.Histories.{started, board-at, after-commit};
+ghost use Rattle.versions.specs.Histories.{started, after-commit};
 ghost use Rattle.versions.specs.Chained.{versions-of, size-of};
-ghost use Rattle.versions.specs.Kept.{HistoryModel, history-of, value-in, clash-since, land-answer, land-after};
+ghost use Rattle.versions.specs.Meaning.{history-of, land-answer, land-after};
 use crate::chains::Chains;
 use crate::history::History;
+use crate::history::MOST_COMMITS;
 use crate::own_writes::OwnWrites;
 use std::alloc::AllocError;
 use std::alloc::Global;
 use stores::StoreFault;
-use tickets::OBJECTS;
 use tickets::Pair;
-
-/// The most commits that write.
-pub const MOST_COMMITS: u32 = 256;
 
 impl History {
     /// A history of no commits, from these values; all memory is reserved here.
@@ -28,46 +25,6 @@ impl History {
     {
         let chains = Chains::new(heap, values)?;
         Ok(History { chains, commits: 0 })
-    }
-
-    /// How many commits wrote.
-    pub fn commits(&self) -> u32
-        ensures answer { λ r. ⌜ r ≡ history-of (now (self .entry)) .commits ⌝ }
-    {
-        self.commits
-    }
-
-    /// The current value of an object; none where there is no such object.
-    pub fn value(&self, object: usize) -> Option<u32>
-        ensures answer { λ r. ⌜ r ≡ value-in (history-of (now (self .entry))) (history-of (now (self .entry)) .commits) object ⌝ }
-    {
-        if object >= OBJECTS {
-            return None;
-        }
-        Some(self.chains.newest(object).value)
-    }
-
-    /// The value of an object after the commit of this count; none where there is no such object.
-    pub fn value_at(&self, object: usize, count: u32) -> Option<u32>
-        ensures answer { λ r. ⌜ r ≡ value-in (history-of (now (self .entry))) count object ⌝ }
-    {
-        if object >= OBJECTS {
-            return None;
-        }
-        Some(self.chains.seen(object, count))
-    }
-
-    /// Whether a commit after this count wrote an object of these writes.
-    pub fn overtakes(&self, own: &OwnWrites, count: u32) -> bool
-        ensures answer { λ r. ⌜ r ≡ clash-since (history-of (now (self .entry))) count (own-of (now (own .entry))) ⌝ }
-    {
-        let pairs = own.pairs();
-        for pair in pairs {
-            if self.chains.newest(pair.object).commit > count {
-                return true;
-            }
-        }
-        false
     }
 
     /// Makes these writes the next commit, where there is room for one more.

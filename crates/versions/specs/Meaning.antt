@@ -1,4 +1,4 @@
--- What a history means: how many commits wrote, and the versions that they left.
+-- What a history means, and what a commit does to it.
 use mathlib.Core.Bool.{Bool, cond, _&&_}
 use mathlib.Core.List.{List}
 use Prim.Native.Nat.{ℕ, _+_}
@@ -16,10 +16,12 @@ use Rattle.versions.specs.declared.history.History.{History}
 use Rattle.versions.specs.Histories.{Dated, board-at, written-since, after-commit}
 use Rattle.versions.specs.Chained.{versions-of}
 
+-- how many commits wrote, and the versions of each object
 pub record HistoryModel : Type 0 where
   pub commits : ℕ
   pub versions : ℕ → List Dated
 
+-- a history means its count and its versions
 abbrev pub history-of : History → HistoryModel
 history-of h = record { commits = h .commits; versions = versions-of (h .chains) }
 
@@ -31,9 +33,10 @@ value-in m c j = cond (ltb j 128) (Some (getD (board-at (m .versions) c) j 0)) N
 abbrev pub clash-since : HistoryModel → ℕ → (ℕ → Option ℕ) → Bool
 clash-since m c own = any-below (λ j. isSome (own j) && written-since (m .versions) c j) 128
 
--- 256 commits are the most
+-- a commit is refused where there have been 256
 abbrev pub land-answer : HistoryModel → Result (Unit {0}) StoreFault
 land-answer m = cond (eqb (m .commits) 256) (Err Full) (Ok tt)
 
+-- the next commit made these writes
 abbrev pub land-after : HistoryModel → (ℕ → Option ℕ) → HistoryModel
 land-after m own = cond (eqb (m .commits) 256) m (record { commits = m .commits + 1; versions = after-commit (m .versions) (m .commits + 1) own })

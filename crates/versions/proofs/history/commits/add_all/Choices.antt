@@ -4,7 +4,7 @@ use lib.ListN.{drop}
 use Rattle.versions.specs.Pairs.{own-in}
 use Rattle.versions.specs.Histories.{after-commit}
 use Rattle.versions.specs.Chained.{versions-of, size-of}
-use Rattle.versions.proofs.history.methods.add_all.Given as given
+use Rattle.versions.proofs.history.commits.add_all.Given as given
 
 abbrev pub Inv-loop-pair : given.InvT-loop-pair
 Inv-loop-pair l =
