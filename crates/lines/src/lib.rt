@@ -1,1 +1,5 @@
-// lines
+// A script cut into its lines, and a line into the call that it spells.
+pub mod lines;
+pub use lines::Lines;
+pub use lines::LinesIterator;
+pub use lines::line_count;
