@@ -1,3 +1,4 @@
 pub mod Fronts
 pub mod Scripts
 pub mod Handing
+pub mod Cutting

@@ -1,2 +1,4 @@
 pub mod Fronts
+pub mod Numerals
 pub mod Scripts
+pub mod Tokens

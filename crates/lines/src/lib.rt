@@ -1,5 +1,9 @@
 // A script cut into its lines, and a line into the call that it spells.
 pub mod lines;
+pub mod token;
+pub mod tokens;
 pub use lines::Lines;
 pub use lines::LinesIterator;
 pub use lines::line_count;
+pub use token::Token;
+pub use tokens::Tokens;

@@ -1,0 +1,15 @@
+// A line, cut into tokens from its front.
+ghost use Prim.Native.Nat.{_≤_};
+ghost use denote.Ref.{now};
+ghost use lib.ListN.{length};
+
+mod cut;
+mod methods;
+
+#[derive(Clone, Copy, Debug)]
+pub struct Tokens<'a> {
+    pub(crate) line: &'a [u8],
+    // where the next token is to be cut
+    pub(crate) at: usize,
+    ghost within: { at ≤ length (now line) },
+}
