@@ -1,5 +1,6 @@
 // A script cut into its lines, and a line into the call that it spells.
 pub mod lines;
+mod numeral;
 pub mod token;
 pub mod tokens;
 pub use lines::Lines;
