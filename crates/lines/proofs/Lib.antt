@@ -1,5 +1,6 @@
+pub mod Cutting
 pub mod Fronts
 pub mod Scripts
 pub mod Handing
-pub mod Cutting
 pub mod Numerals
+pub mod Numbers

@@ -1,4 +1,5 @@
 pub mod Fronts
 pub mod Numerals
+pub mod Reading
 pub mod Scripts
 pub mod Tokens

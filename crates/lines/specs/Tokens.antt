@@ -1,4 +1,4 @@
--- What a line is cut into.
+-- What a line is cut into: tokens, each with its bytes and their place in the line.
 use mathlib.Core.Path.{_≡_}
 use mathlib.Core.Bool.{cond}
 use mathlib.Core.List.{List, [], _∷_, _++_}
@@ -13,47 +13,44 @@ use Rattle.lines.specs.declared.token.Token.the-variants.{Letter, Number}
 use Rattle.lines.specs.declared.tokens.Tokens.{Tokens}
 use Rattle.lines.specs.Fronts.{front}
 
--- a token: its bytes, and their place in the line
+-- a token's bytes
 pub data Piece : Type 0 where
-  letter : List ℕ → ℕ → Piece
-  number : List ℕ → ℕ → Piece
+  letter : List ℕ → Piece
+  number : List ℕ → Piece
 
 abbrev pub piece : Token → Piece
-piece (Letter bytes at) = letter (bytes .now) at
-piece (Number bytes at) = number (bytes .now) at
+piece (Letter bytes at) = letter (bytes .now)
+piece (Number bytes at) = number (bytes .now)
 
--- digits, if any, are a number
-abbrev pub number-of : List ℕ → ℕ → Option Piece
-number-of [] at = None
-number-of (d ∷ ds) at = Some (number (d ∷ ds) at)
+-- digits, if there are any, are a number
+abbrev pub some-digits : List ℕ → Option Piece
+some-digits [] = None
+some-digits (d ∷ ds) = Some (number (d ∷ ds))
 
--- the token in front of what is left of a line from a place on: a letter, or a space and then all the digits there
-abbrev pub token-of : List ℕ → ℕ → Option Piece
-token-of [] at = None
-token-of (b ∷ bs) at = cond (asciiLetter b) (Some (letter (b ∷ []) at)) (cond (eqb b 32) (number-of (front asciiDigit bs) (at + 1)) None)
+-- the token in front: a letter, or a space and then all the digits there
+abbrev pub token-in-front : List ℕ → Option Piece
+token-in-front [] = None
+token-in-front (b ∷ bs) = cond (asciiLetter b) (Some (letter (b ∷ []))) (cond (eqb b 32) (some-digits (front asciiDigit bs)) None)
 
-abbrev pub token-at : List ℕ → ℕ → Option Piece
-token-at line at = token-of (drop at line) at
+-- the bytes that the cut takes off with a token: a number has one space before it
+abbrev pub taken-off : Option Piece → List ℕ
+taken-off None = []
+taken-off (Some (letter bs)) = bs
+taken-off (Some (number bs)) = 32 ∷ bs
 
--- where a token ends
-abbrev pub end-of : Piece → ℕ
-end-of (letter bs place) = place + length bs
-end-of (number bs place) = place + length bs
+-- what is left behind the token in front
+abbrev pub behind-token : List ℕ → List ℕ
+behind-token rest = drop (length (taken-off (token-in-front rest))) rest
 
--- where the cut goes on; without a token it stays where it is
-abbrev pub next-cut : Option Piece → ℕ → ℕ
-next-cut None at = at
-next-cut (Some p) at = end-of p
+-- a token tells the place of its bytes in the line, where the cut began at `at`
+abbrev pub Placed : ℕ → Option Token → Type 0
+Placed at None = Unit {0}
+Placed at (Some (Letter bytes place)) = place ≡ at
+Placed at (Some (Number bytes place)) = place ≡ at + 1
 
--- from one cut to the next stands the token, with one space before a number, and nothing else
-abbrev pub Covers : List ℕ → ℕ → Option Piece → ℕ → Type 0
-Covers line at None end = end ≡ at
-Covers line at (Some (letter bs place)) end = (place ≡ at) × (drop at line ≡ bs ++ drop end line)
-Covers line at (Some (number bs place)) end = (place ≡ at + 1) × (drop at line ≡ 32 ∷ (bs ++ drop end line))
-
--- the line that is cut, and where the next token is to be cut
-abbrev pub line-of : Tokens → List ℕ
-line-of t = t .line .now
-
+-- where the next token is to be cut, and what is left of the line there
 abbrev pub place-of : Tokens → ℕ
 place-of t = t .at
+
+abbrev pub left-of : Tokens → List ℕ
+left-of t = drop (t .at) (t .line .now)

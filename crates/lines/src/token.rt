@@ -1,7 +1,8 @@
 // A token of a line: a letter, or a number behind a space. Its bytes are a part of the line, from the place `at` on.
 ghost use mathlib.Core.Path.{_≡_};
-ghost use Prim.Native.Nat.{_^_, _<_};
-ghost use Rattle.lines.specs.Tokens.{piece, end-of};
+ghost use lib.ListN.{length};
+ghost use Rattle.std.specs.declared.option.Option.the-variants.{Some};
+ghost use Rattle.lines.specs.Tokens.{piece, taken-off};
 
 #[derive(Clone, Copy, Debug)]
 pub enum Token<'a> {
@@ -10,14 +11,13 @@ pub enum Token<'a> {
 }
 
 impl Token<'_> {
-    /// Where the token ends.
-    pub(crate) fn end(self) -> usize
-        requires { ⌜ end-of (piece self) < 2 ^ 64 ⌝ }
-        ensures answer { λ r. ⌜ r ≡ end-of (piece (self .entry)) ⌝ }
+    /// How many bytes the cut takes off with the token: a number has one space before it.
+    pub(crate) fn width(self) -> usize
+        ensures answer { λ r. ⌜ r ≡ length (taken-off (Some (piece (self .entry)))) ⌝ }
     {
         match self {
-            Token::Letter { bytes, at } => at + bytes.len(),
-            Token::Number { bytes, at } => at + bytes.len(),
+            Token::Letter { bytes, at: _ } => bytes.len(),
+            Token::Number { bytes, at: _ } => bytes.len() + 1,
         }
     }
 }

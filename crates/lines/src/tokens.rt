@@ -5,6 +5,7 @@ ghost use lib.ListN.{length};
 
 mod cut;
 mod methods;
+mod words;
 
 #[derive(Clone, Copy, Debug)]
 pub struct Tokens<'a> {

@@ -1,34 +1,36 @@
 ghost use mathlib.Core.Path.{_≡_};
-ghost use lib.Dec.{leb};
+ghost use mathlib.Core.List.{_++_};
+ghost use Prim.Native.Nat.{_+_};
+ghost use lib.Dec.{eqb};
 ghost use lib.ListN.{length};
 ghost use Rattle.std.specs.Options.{mapped};
-ghost use Rattle.lines.specs.Tokens.{piece, token-at, next-cut, Covers, line-of, place-of};
+ghost use Rattle.lines.specs.Tokens.{piece, token-in-front, taken-off, behind-token, Placed, place-of, left-of};
 use crate::token::Token;
 use crate::tokens::Tokens;
 use crate::tokens::cut::token_at;
 
 impl<'a> Tokens<'a> {
     pub fn new(line: &'a [u8]) -> Tokens<'a>
-        ensures answer { λ r. ⌜ (line-of r ≡ now (line .entry)) × (place-of r ≡ 0) ⌝ }
+        ensures answer { λ r. ⌜ (left-of r ≡ now (line .entry)) × (place-of r ≡ 0) ⌝ }
     {
         Tokens { line, at: 0 }
     }
 
-    /// The token where the cut stands, as a part of the line; none at the end, and where no token stands.
+    /// The token in front of what is left, as a part of the line; none at the end, and where no token stands.
     pub fn next(&mut self) -> Option<Token<'a>>
-        ensures answer { λ r. ⌜ mapped piece r ≡ token-at (line-of (now (self .entry))) (place-of (now (self .entry))) ⌝ }
-        ensures after { λ r. ⌜ place-of (now (self .exit)) ≡ next-cut (mapped piece r) (place-of (now (self .entry))) ⌝ }
-        ensures others { λ _. ⌜ line-of (now (self .exit)) ≡ line-of (now (self .entry)) ⌝ }
-        ensures law { λ r. ⌜ Covers (line-of (now (self .entry))) (place-of (now (self .entry))) (mapped piece r) (place-of (now (self .exit))) ⌝ }
+        ensures answer { λ r. ⌜ mapped piece r ≡ token-in-front (left-of (now (self .entry))) ⌝ }
+        ensures place { λ r. ⌜ Placed (place-of (now (self .entry))) r ⌝ }
+        ensures after { λ r. ⌜ (left-of (now (self .exit)) ≡ behind-token (left-of (now (self .entry)))) × (place-of (now (self .exit)) ≡ place-of (now (self .entry)) + length (taken-off (mapped piece r))) ⌝ }
+        ensures law { λ r. ⌜ left-of (now (self .entry)) ≡ taken-off (mapped piece r) ++ left-of (now (self .exit)) ⌝ }
     {
         let token = token_at(self.line, self.at)?;
-        self.at = token.end();
+        self.at += token.width();
         Some(token)
     }
 
-    /// Whether the cut stands at the end of the line.
+    /// Whether nothing is left of the line.
     pub fn is_done(&self) -> bool
-        ensures answer { λ r. ⌜ r ≡ leb (length (line-of (now (self .entry)))) (place-of (now (self .entry))) ⌝ }
+        ensures answer { λ r. ⌜ r ≡ eqb (length (left-of (now (self .entry)))) 0 ⌝ }
     {
         self.at >= self.line.len()
     }
