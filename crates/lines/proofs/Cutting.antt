@@ -15,7 +15,7 @@ use Rattle.lines.specs.Fronts.{front}
 use Rattle.lines.specs.Tokens.{Piece, letter, number, some-digits, token-in-front, taken-off, behind-token}
 use Rattle.lines.proofs.Fronts.{front-comes-first, front-is-short}
 
-digits-are-a-number : (ds : List ℕ) → (length ds ≡ 0 → ⊥) → Some (number ds) ≡ some-digits ds
+pub digits-are-a-number : (ds : List ℕ) → (length ds ≡ 0 → ⊥) → Some (number ds) ≡ some-digits ds
 digits-are-a-number [] some = absurd (some refl)
 digits-are-a-number (d ∷ ds) some = refl
 

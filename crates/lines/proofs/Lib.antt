@@ -4,3 +4,5 @@ pub mod Scripts
 pub mod Handing
 pub mod Numerals
 pub mod Numbers
+pub mod Spaced
+pub mod Spelling

@@ -1,10 +1,12 @@
 // A script cut into its lines, and a line into the call that it spells.
 pub mod lines;
 mod numeral;
+pub mod reading;
 pub mod token;
 pub mod tokens;
 pub use lines::Lines;
 pub use lines::LinesIterator;
 pub use lines::line_count;
+pub use reading::read_line;
 pub use token::Token;
 pub use tokens::Tokens;
