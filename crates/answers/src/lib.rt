@@ -2,5 +2,9 @@
 pub mod answer;
 mod bytes;
 mod printing;
+
 pub use answer::MOST_BYTES;
 pub use answer::Printed;
+
+#[cfg(test)]
+mod tests;

@@ -45,8 +45,8 @@ what-is-taken-off-comes-first (b ∷ bs) =
     cond-both (asciiLetter b) _ _ P
     (λ _. record { short = omega arith; first = refl })
     (λ _. cond-both (eqb b 32) _ _ P
-      (λ space. rw (eqb-true b 32 space) (digits-come-first bs (front asciiDigit bs) (record { short = front-is-short asciiDigit bs; first = front-comes-first asciiDigit bs })))
-      (λ _. no-bytes-come-first (b ∷ bs)))
+    (λ space. rw (eqb-true b 32 space) (digits-come-first bs (front asciiDigit bs) (record { short = front-is-short asciiDigit bs; first = front-comes-first asciiDigit bs })))
+    (λ _. no-bytes-come-first (b ∷ bs)))
 
 pub nothing-is-left-over : (rest : List ℕ) → rest ≡ taken-off (token-in-front rest) ++ behind-token rest
 nothing-is-left-over rest =

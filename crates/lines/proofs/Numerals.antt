@@ -14,12 +14,13 @@ use Rattle.std.specs.Written.{decimal}
 use Rattle.std.specs.declared.option.Option.{Option}
 use Rattle.std.specs.declared.option.Option.the-variants.{Some, None}
 use Rattle.std.proofs.shelf.Ways.{tells}
-use Rattle.std.proofs.shelf.Tests.{cases-eq, cond-true, cond-both, and-parts, and-from, eqb-true, eq-eqb, ltb-true, lt-ltb}
+use Rattle.std.proofs.shelf.Tests.{false≢true, cases-eq, cond-true, cond-both, and-parts, and-from, eqb-true, eq-eqb, ltb-true, lt-ltb}
 use Rattle.std.proofs.shelf.Lists.{length-take-le}
 use Rattle.std.proofs.shelf.Numerals.{Numerals, numerals-by-value, tells-digits}
 use Rattle.std.proofs.shelf.Digits.{value-lt, value-more, digits-more}
 use Rattle.std.proofs.shelf.Decimals.{decimal-some, length-decimal-le, decimal-reads, decimal-digit, first-decimal, decimal-value}
 use Rattle.lines.specs.Numerals.{same, spelled-by, numeral}
+use Rattle.lines.proofs.Options.{none-is-not-some, same-in-some}
 
 -- what the decimal digits of a number of 32 bits are like
 pub record Spelled (ds : List ℕ) (n : ℕ) : Type 0 where
@@ -32,8 +33,8 @@ pub record Spelled (ds : List ℕ) (n : ℕ) : Type 0 where
 no-leading-zero : (n : ℕ) → n < 2 ^ 32 → getD (decimal n) 0 0 ≡ 48 → length (decimal n) ≡ 1
 no-leading-zero n h zeroed =
     elim (cases-eq n 0) [
-      inl e ↦ ap length (decimal-digit n (omega arith))
-    | inr d ↦ absurd (omega (arith, first-decimal n (omega arith) (omega arith)))
+      | inl e ↦ ap length (decimal-digit n (omega arith))
+      | inr d ↦ absurd (omega (arith, first-decimal n (omega arith) (omega arith)))
     ]
 
 pub spelled : (ds : List ℕ) (n : ℕ) → n < 2 ^ 32 → ds ≡ decimal n → Spelled ds n
@@ -52,8 +53,8 @@ digits-spell-their-value ds all some plain small = sym (decimal-value (numerals-
 
 same-is-equal : (xs ys : List ℕ) → same xs ys ≡ true → xs ≡ ys
 same-is-equal [] [] e = refl
-same-is-equal [] (y ∷ ys) e = absurd (let z : _≡_ {A = ℕ} 0 1 = cc in omega arith)
-same-is-equal (x ∷ xs) [] e = absurd (let z : _≡_ {A = ℕ} 0 1 = cc in omega arith)
+same-is-equal [] (y ∷ ys) e = absurd (false≢true e)
+same-is-equal (x ∷ xs) [] e = absurd (false≢true e)
 same-is-equal (x ∷ xs) (y ∷ ys) e =
     let both = and-parts (eqb x y) (same xs ys) e in
     (λ i. eqb-true x y (both .0) i ∷ same-is-equal xs ys (both .1) i)
@@ -61,9 +62,6 @@ same-is-equal (x ∷ xs) (y ∷ ys) e =
 same-as-itself : (xs : List ℕ) → same xs xs ≡ true
 same-as-itself [] = refl
 same-as-itself (x ∷ xs) = and-from (eqb x x) (same xs xs) (eq-eqb x x refl) (same-as-itself xs)
-
-some-is : {A : Type 0} (x y : A) → Some x ≡ Some y → x ≡ y
-some-is x y e = cc
 
 -- the number, where the bytes are its decimal
 pub decimal-is-read-back : (bs : List ℕ) (n : ℕ) → n < 2 ^ 32 → bs ≡ decimal n → numeral bs ≡ Some n
@@ -82,9 +80,9 @@ read-only-there : (bs : List ℕ) (v n : ℕ) → spelled-by bs v ≡ Some n →
 read-only-there bs v n =
     cond-both (ltb v (2 ^ 32) && same bs (decimal v)) (Some v) None (λ o. o ≡ Some n → Reads bs n)
     (λ t e.
-      let both = and-parts (ltb v (2 ^ 32)) (same bs (decimal v)) t in
-      subst (Reads bs) (some-is v n e) (record { narrow = ltb-true v (2 ^ 32) (both .0); is = same-is-equal bs (decimal v) (both .1) }))
-    (λ _ e. absurd (let z : _≡_ {A = ℕ} 0 1 = cc in omega arith))
+    let both = and-parts (ltb v (2 ^ 32)) (same bs (decimal v)) t in
+    subst (Reads bs) (same-in-some e) (record { narrow = ltb-true v (2 ^ 32) (both .0); is = same-is-equal bs (decimal v) (both .1) }))
+    (λ _ e. none-is-not-some e)
 
 pub what-is-read-is-decimal : (bs : List ℕ) (n : ℕ) → numeral bs ≡ Some n → Reads bs n
 unfolding numeral

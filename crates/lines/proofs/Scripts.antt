@@ -18,11 +18,13 @@ cut s = front inside s ∷ lines-of (drop (suc (length (front inside s))) s)
 
 -- a byte before what is cut: an end of line (e is true), or one more byte of the first line
 byte-before-a-cut : (e : Bool) (b : ℕ) (bs : List ℕ) → (0 < length bs → lines-of bs ≡ cut bs) → cond e ([] ∷ lines-of bs) (onto b (lines-of bs)) ≡ cond (not e) (b ∷ front inside bs) [] ∷ lines-of (drop (length (cond (not e) (b ∷ front inside bs) [])) bs)
+unfolding lines-of
 byte-before-a-cut true b bs h = refl
 byte-before-a-cut false b [] h = refl
 byte-before-a-cut false b (x ∷ bs) h = ap (onto b) (h (omega arith))
 
 first-line-and-the-others : (s : List ℕ) → 0 < length s → lines-of s ≡ cut s
+unfolding lines-of
 first-line-and-the-others [] h = absurd (omega arith)
 first-line-and-the-others (b ∷ bs) h = byte-before-a-cut (eqb b 10) b bs (first-line-and-the-others bs)
 
@@ -39,5 +41,11 @@ byte-onto-lines false b [] = omega arith
 byte-onto-lines false b (l ∷ ls) = omega arith
 
 pub no-more-lines-than-bytes : (s : List ℕ) → length (lines-of s) ≤ length s
+unfolding lines-of
 no-more-lines-than-bytes [] = omega arith
 no-more-lines-than-bytes (b ∷ bs) = omega (arith, byte-onto-lines (eqb b 10) b (lines-of bs), no-more-lines-than-bytes bs)
+
+pub no-bytes-are-no-lines : (s : List ℕ) → length s ≡ 0 → [] ≡ lines-of s
+unfolding lines-of
+no-bytes-are-no-lines [] none = refl
+no-bytes-are-no-lines (b ∷ bs) none = absurd (omega arith)

@@ -21,6 +21,7 @@ use Rattle.lines.specs.Spelling.{spaced}
 use Rattle.lines.specs.Tokens.{Piece, letter, number, some-digits, token-in-front, taken-off, behind-token}
 use Rattle.lines.proofs.Cutting.{digits-are-a-number, nothing-is-left-over}
 use Rattle.lines.proofs.Numerals.{spelled, decimal-is-read-back, what-is-read-is-decimal}
+use Rattle.lines.proofs.Options.{none-is-not-some, same-in-some}
 
 -- no digit comes first
 abbrev Stops : List ℕ → Type 0
@@ -69,23 +70,23 @@ record Parts (first : Option ℕ) (others : Option (List ℕ)) (ns : List ℕ) :
   all : n ∷ ms ≡ ns
 
 parts : (first : Option ℕ) (others : Option (List ℕ)) (ns : List ℕ) → before first others ≡ Some ns → Parts first others ns
-parts None others ns e = absurd (let z : _≡_ {A = ℕ} 0 1 = cc in omega arith)
-parts (Some n) None ns e = absurd (let z : _≡_ {A = ℕ} 0 1 = cc in omega arith)
-parts (Some n) (Some ms) ns e = record { n = n; ms = ms; first-is = refl; others-are = refl; all = cc }
+parts None others ns e = none-is-not-some e
+parts (Some n) None ns e = none-is-not-some e
+parts (Some n) (Some ms) ns e = record { n = n; ms = ms; first-is = refl; others-are = refl; all = same-in-some e }
 
 record Taken (o : Option Piece) (n : ℕ) : Type 0 where
   off : taken-off o ≡ 32 ∷ decimal n
   narrow : n < 2 ^ 32
 
 a-number-is-taken-off : (o : Option Piece) (n : ℕ) → number-in o ≡ Some n → Taken o n
-a-number-is-taken-off None n e = absurd (let z : _≡_ {A = ℕ} 0 1 = cc in omega arith)
-a-number-is-taken-off (Some (letter bs)) n e = absurd (let z : _≡_ {A = ℕ} 0 1 = cc in omega arith)
+a-number-is-taken-off None n e = none-is-not-some e
+a-number-is-taken-off (Some (letter bs)) n e = none-is-not-some e
 a-number-is-taken-off (Some (number bs)) n e = let r = what-is-read-is-decimal bs n e in record { off = ap (λ l. 32 ∷ l) (r .is); narrow = r .narrow }
 
 pub only-spaced-numbers-are-read : (k : ℕ) (rest ns : List ℕ) → numbers-in k rest ≡ Some ns → Spells rest k ns
 unfolding numbers-in
-only-spaced-numbers-are-read zero [] ns e = let none : [] ≡ ns = cc in subst (Spells [] 0) none (record { is = refl; long = refl; narrow = tt })
-only-spaced-numbers-are-read zero (b ∷ bs) ns e = absurd (let z : _≡_ {A = ℕ} 0 1 = cc in omega arith)
+only-spaced-numbers-are-read zero [] ns e = subst (Spells [] 0) (same-in-some e) (record { is = refl; long = refl; narrow = tt })
+only-spaced-numbers-are-read zero (b ∷ bs) ns e = none-is-not-some e
 only-spaced-numbers-are-read (suc k) rest ns e =
     let p = parts (number-in (token-in-front rest)) (numbers-in k (behind-token rest)) ns e in
     let t = a-number-is-taken-off (token-in-front rest) (p .n) (p .first-is) in

@@ -19,6 +19,7 @@ use Rattle.lines.specs.Reading.{letter-in, numbers-in, with-one, with-two, wit
 use Rattle.lines.specs.Spelling.{spaced, numbers-of, letter-of, spelled, Narrow, Understands}
 use Rattle.lines.specs.Tokens.{Piece, letter, number, some-digits, token-in-front, taken-off, behind-token}
 use Rattle.lines.proofs.Cutting.{nothing-is-left-over}
+use Rattle.lines.proofs.Options.{none-is-not-some, same-in-some}
 use Rattle.lines.proofs.Spaced.{spaced-numbers-are-read-back, only-spaced-numbers-are-read}
 
 -- the line is the call's spelling
@@ -33,13 +34,12 @@ record Makes (call : List ℕ → Call) (l k : ℕ) : Type 0 where
 
 module _ (call : List ℕ → Call) (l k : ℕ) (makes : Makes call l k) (rest : List ℕ) where
   made : (o : Option (List ℕ)) (c : Call) → numbers-in k rest ≡ o → mapped call o ≡ Some c → Spelling c (l ∷ rest)
-  made None c is e = absurd (let z : _≡_ {A = ℕ} 0 1 = cc in omega arith)
+  made None c is e = none-is-not-some e
   made (Some ns) c is e =
       let s = only-spaced-numbers-are-read k rest ns is in
-      let same : call ns ≡ c = cc in
       let numbers = makes .has-numbers ns (s .long) in
       let spells : spelled (call ns) ≡ Some (l ∷ rest) = (λ i. mapped (λ x. x ++ spaced (numbers i)) (makes .has-letter ns i)) ∙ ap (λ r. Some (l ∷ r)) (sym (s .is)) in
-      subst (λ x. Spelling x (l ∷ rest)) same (record { is = spells; narrow = subst (All (λ n. n < 2 ^ 32)) (sym numbers) (s .narrow) })
+      subst (λ x. Spelling x (l ∷ rest)) (same-in-some e) (record { is = spells; narrow = subst (All (λ n. n < 2 ^ 32)) (sym numbers) (s .narrow) })
 
   call-of-its-letter : (m : ℕ) (c : Call) → m ≡ l → mapped call (numbers-in k rest) ≡ Some c → Spelling c (m ∷ rest)
   call-of-its-letter m c e h = subst (λ x. Spelling c (x ∷ rest)) (sym e) (made (numbers-in k rest) c refl h)
@@ -79,28 +79,28 @@ module _ (l : ℕ) (rest : List ℕ) (c : Call) where
       (λ _. cond-both (eqb l 65) _ _ P (by-two Apply 65 (λ _ _. refl) (λ _ _. refl))
       (λ _. cond-both (eqb l 68) _ _ P (by-two Drain 68 (λ _ _. refl) (λ _ _. refl))
       (λ _. cond-both (eqb l 86) _ _ P (by-two Value 86 (λ _ _. refl) (λ _ _. refl))
-      (λ _ e. absurd (let z : _≡_ {A = ℕ} 0 1 = cc in omega arith)))))))))
+      (λ _ e. none-is-not-some e))))))))
 
 -- the letter in front is one byte
 digits-are-no-letter : (ds : List ℕ) (l : ℕ) → letter-in (some-digits ds) ≡ Some l → ⊥
-digits-are-no-letter [] l e = let z : _≡_ {A = ℕ} 0 1 = cc in omega arith
-digits-are-no-letter (d ∷ ds) l e = let z : _≡_ {A = ℕ} 0 1 = cc in omega arith
+digits-are-no-letter [] l e = none-is-not-some e
+digits-are-no-letter (d ∷ ds) l e = none-is-not-some e
 
 letter-byte : (b : ℕ) (bs : List ℕ) (l : ℕ) → letter-in (token-in-front (b ∷ bs)) ≡ Some l → taken-off (token-in-front (b ∷ bs)) ≡ l ∷ []
 letter-byte b bs l =
     let P : Option Piece → Type 0 = λ o. letter-in o ≡ Some l → taken-off o ≡ l ∷ [] in
     cond-both (asciiLetter b) _ _ P
-    (λ _ e. let same : b ≡ l = cc in ap (λ x. x ∷ []) same)
+    (λ _ e. ap (λ x. x ∷ []) (same-in-some e))
     (λ _. cond-both (eqb b 32) _ _ P
-      (λ _ e. absurd (digits-are-no-letter (front asciiDigit bs) l e))
-      (λ _ e. absurd (let z : _≡_ {A = ℕ} 0 1 = cc in omega arith)))
+    (λ _ e. absurd (digits-are-no-letter (front asciiDigit bs) l e))
+    (λ _ e. none-is-not-some e))
 
 letter-is-taken-off : (line : List ℕ) (l : ℕ) → letter-in (token-in-front line) ≡ Some l → taken-off (token-in-front line) ≡ l ∷ []
-letter-is-taken-off [] l e = absurd (let z : _≡_ {A = ℕ} 0 1 = cc in omega arith)
+letter-is-taken-off [] l e = none-is-not-some e
 letter-is-taken-off (b ∷ bs) l e = letter-byte b bs l e
 
 asked-by-a-letter : (line : List ℕ) (c : Call) (o : Option ℕ) → letter-in (token-in-front line) ≡ o → asked o (behind-token line) ≡ Some c → Spelling c line
-asked-by-a-letter line c None is e = absurd (let z : _≡_ {A = ℕ} 0 1 = cc in omega arith)
+asked-by-a-letter line c None is e = none-is-not-some e
 asked-by-a-letter line c (Some l) is e =
     let whole = nothing-is-left-over line ∙ ap (λ t. t ++ behind-token line) (letter-is-taken-off line l is) in
     subst (Spelling c) (sym whole) (only-spellings-are-asked l (behind-token line) c e)
@@ -111,25 +111,19 @@ only-spellings-are-understood line c e = asked-by-a-letter line c _ refl e
 
 -- the other way round: what a call spells is understood as that call
 module _ (line : List ℕ) where
-  this-line : (x : List ℕ) → Some x ≡ Some line → x ≡ line
-  this-line x e = cc
-
-  no-line : {A : Type 0} → None ≡ Some line → A
-  no-line e = absurd (let z : _≡_ {A = ℕ} 0 1 = cc in omega arith)
-
   spellings-are-understood : (c : Call) → Narrow c → spelled c ≡ Some line → understood line ≡ Some c
   unfolding understood
-  spellings-are-understood (Begin k) n e = ap understood (sym (this-line _ e)) ∙ ap (mapped (with-one Begin)) (spaced-numbers-are-read-back (k ∷ []) n)
-  spellings-are-understood (Read t j) n e = ap understood (sym (this-line _ e)) ∙ ap (mapped (with-two Read)) (spaced-numbers-are-read-back (t ∷ j ∷ []) n)
-  spellings-are-understood (Write t j v) n e = ap understood (sym (this-line _ e)) ∙ ap (mapped (with-three Write)) (spaced-numbers-are-read-back (t ∷ j ∷ v ∷ []) n)
-  spellings-are-understood (Commit t) n e = ap understood (sym (this-line _ e)) ∙ ap (mapped (with-one Commit)) (spaced-numbers-are-read-back (t ∷ []) n)
-  spellings-are-understood (GiveUp t) n e = ap understood (sym (this-line _ e)) ∙ ap (mapped (with-one GiveUp)) (spaced-numbers-are-read-back (t ∷ []) n)
-  spellings-are-understood (Apply k n) narrow e = ap understood (sym (this-line _ e)) ∙ ap (mapped (with-two Apply)) (spaced-numbers-are-read-back (k ∷ n ∷ []) narrow)
-  spellings-are-understood (Drain k m) n e = ap understood (sym (this-line _ e)) ∙ ap (mapped (with-two Drain)) (spaced-numbers-are-read-back (k ∷ m ∷ []) n)
-  spellings-are-understood (Value k j) n e = ap understood (sym (this-line _ e)) ∙ ap (mapped (with-two Value)) (spaced-numbers-are-read-back (k ∷ j ∷ []) n)
-  spellings-are-understood (State t) n e = no-line e
-  spellings-are-understood (WriteSet m) n e = no-line e
-  spellings-are-understood (Applied k) n e = no-line e
+  spellings-are-understood (Begin k) n e = ap understood (sym (same-in-some e)) ∙ ap (mapped (with-one Begin)) (spaced-numbers-are-read-back (k ∷ []) n)
+  spellings-are-understood (Read t j) n e = ap understood (sym (same-in-some e)) ∙ ap (mapped (with-two Read)) (spaced-numbers-are-read-back (t ∷ j ∷ []) n)
+  spellings-are-understood (Write t j v) n e = ap understood (sym (same-in-some e)) ∙ ap (mapped (with-three Write)) (spaced-numbers-are-read-back (t ∷ j ∷ v ∷ []) n)
+  spellings-are-understood (Commit t) n e = ap understood (sym (same-in-some e)) ∙ ap (mapped (with-one Commit)) (spaced-numbers-are-read-back (t ∷ []) n)
+  spellings-are-understood (GiveUp t) n e = ap understood (sym (same-in-some e)) ∙ ap (mapped (with-one GiveUp)) (spaced-numbers-are-read-back (t ∷ []) n)
+  spellings-are-understood (Apply k n) narrow e = ap understood (sym (same-in-some e)) ∙ ap (mapped (with-two Apply)) (spaced-numbers-are-read-back (k ∷ n ∷ []) narrow)
+  spellings-are-understood (Drain k m) n e = ap understood (sym (same-in-some e)) ∙ ap (mapped (with-two Drain)) (spaced-numbers-are-read-back (k ∷ m ∷ []) n)
+  spellings-are-understood (Value k j) n e = ap understood (sym (same-in-some e)) ∙ ap (mapped (with-two Value)) (spaced-numbers-are-read-back (k ∷ j ∷ []) n)
+  spellings-are-understood (State t) n e = none-is-not-some e
+  spellings-are-understood (WriteSet m) n e = none-is-not-some e
+  spellings-are-understood (Applied k) n e = none-is-not-some e
 
 pub every-line-is-understood-as-spelled : (line : List ℕ) → Understands line (understood line)
 every-line-is-understood-as-spelled line = record {

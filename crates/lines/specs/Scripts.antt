@@ -19,9 +19,13 @@ onto b [] = (b ∷ []) ∷ []
 onto b (l ∷ ls) = (b ∷ l) ∷ ls
 
 -- each line ends with byte 10, which the last may lack; an empty script has none
-abbrev pub lines-of : List ℕ → List (List ℕ)
+unfoldable pub lines-of : List ℕ → List (List ℕ)
 lines-of [] = []
 lines-of (b ∷ bs) = cond (eqb b 10) ([] ∷ lines-of bs) (onto b (lines-of bs))
+
+-- a script has at most 16,384 bytes and 1,024 lines
+abbrev pub within-limits : List ℕ → Bool
+within-limits s = leb (length s) 16384 && leb (length (lines-of s)) 1024
 
 -- the lines that are still to be handed out
 abbrev pub lines-left : Lines → List (List ℕ)

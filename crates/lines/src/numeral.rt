@@ -8,6 +8,7 @@ ghost use Rattle.lines.specs.Numerals.{numeral};
 
 // the most digits of a number of 32 bits, and the most that it is
 const MOST_DIGITS: usize = 10;
+
 const MOST_NUMBER: u64 = 4_294_967_295;
 
 /// The value of at most ten digits; none where a byte is no digit.

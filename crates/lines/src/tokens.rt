@@ -3,7 +3,7 @@ ghost use Prim.Native.Nat.{_≤_};
 ghost use denote.Ref.{now};
 ghost use lib.ListN.{length};
 
-mod cut;
+mod front;
 mod methods;
 mod words;
 

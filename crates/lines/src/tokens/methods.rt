@@ -7,17 +7,18 @@ ghost use Rattle.std.specs.Options.{mapped};
 ghost use Rattle.lines.specs.Tokens.{piece, token-in-front, taken-off, behind-token, Placed, place-of, left-of};
 use crate::token::Token;
 use crate::tokens::Tokens;
-use crate::tokens::cut::token_at;
+use crate::tokens::front::token_at;
 
 impl<'a> Tokens<'a> {
     pub fn new(line: &'a [u8]) -> Tokens<'a>
-        ensures answer { λ r. ⌜ (left-of r ≡ now (line .entry)) × (place-of r ≡ 0) ⌝ }
+        ensures answer { λ r. ⌜ left-of r ≡ now (line .entry) ⌝ }
+        ensures place { λ r. ⌜ place-of r ≡ 0 ⌝ }
     {
         Tokens { line, at: 0 }
     }
 
-    /// The token in front of what is left, as a part of the line; none at the end, and where no token stands.
-    pub fn next(&mut self) -> Option<Token<'a>>
+    /// Cuts off the token in front of what is left, as a part of the line; none at the end, and where no token stands.
+    pub fn cut(&mut self) -> Option<Token<'a>>
         ensures answer { λ r. ⌜ mapped piece r ≡ token-in-front (left-of (now (self .entry))) ⌝ }
         ensures place { λ r. ⌜ Placed (place-of (now (self .entry))) r ⌝ }
         ensures after { λ r. ⌜ (left-of (now (self .exit)) ≡ behind-token (left-of (now (self .entry)))) × (place-of (now (self .exit)) ≡ place-of (now (self .entry)) + length (taken-off (mapped piece r))) ⌝ }

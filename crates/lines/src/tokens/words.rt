@@ -12,7 +12,7 @@ impl<'a> Tokens<'a> {
         ensures answer { λ r. ⌜ r ≡ letter-in (token-in-front (left-of (now (self .entry)))) ⌝ }
         ensures after { λ _. ⌜ left-of (now (self .exit)) ≡ behind-token (left-of (now (self .entry))) ⌝ }
     {
-        match self.next()? {
+        match self.cut()? {
             Token::Letter { bytes, at: _ } => bytes.first().copied(),
             Token::Number { bytes: _, at: _ } => None,
         }
@@ -23,7 +23,7 @@ impl<'a> Tokens<'a> {
         ensures answer { λ r. ⌜ r ≡ number-in (token-in-front (left-of (now (self .entry)))) ⌝ }
         ensures after { λ _. ⌜ left-of (now (self .exit)) ≡ behind-token (left-of (now (self .entry))) ⌝ }
     {
-        match self.next()? {
+        match self.cut()? {
             Token::Letter { bytes: _, at: _ } => None,
             Token::Number { bytes, at: _ } => number(bytes),
         }

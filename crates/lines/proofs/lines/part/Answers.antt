@@ -5,13 +5,12 @@ use borrow.Author.Tests.{true-eqb, false-eqb}
 use lib.ListN.{length, drop}
 use Rattle.std.proofs.shelf.Lists.{nil-from-length, take-rest}
 use Rattle.lines.specs.Fronts.{inside}
-use Rattle.lines.specs.Scripts.{lines-of}
 use Rattle.lines.proofs.Fronts.{front-is-short}
-use Rattle.lines.proofs.Scripts.{parting-a-line-off}
+use Rattle.lines.proofs.Scripts.{parting-a-line-off, no-bytes-are-no-lines}
 use Rattle.lines.proofs.lines.part.Needs as need
 
 pub returns-then-is-empty : need.returns-then-is-empty
-returns-then-is-empty c = record { answer = ap lines-of (sym (nil-from-length (c .args .script .now) (true-eqb _ 0 (c .if-is-empty .ensures tt)))) }
+returns-then-is-empty c = record { answer = no-bytes-are-no-lines (c .args .script .now) (true-eqb _ 0 (c .if-is-empty .ensures tt)) }
 
 pub split-at-requires : need.split-at-requires
 split-at-requires c κs = omega (arith, front-is-short inside (c .args .script .now))

@@ -3,7 +3,7 @@ use native.Mathlib.Omega.{arith}
 use Rattle.std.specs.Text.{asciiDigit}
 use Rattle.lines.proofs.Cutting.{digits-in-front-are-a-number}
 use Rattle.lines.proofs.Fronts.{front-is-short}
-use Rattle.lines.proofs.tokens.cut.front_number.Needs as need
+use Rattle.lines.proofs.tokens.front.front_number.Needs as need
 
 pub part-result-end : need.part-result-end
 part-result-end c = omega (arith, front-is-short asciiDigit (c .args .behind .now))

@@ -3,7 +3,7 @@ use Prim.Native.Nat.{_+_}
 use Rattle.std.specs.declared.option.Option.the-variants.{Some}
 use Rattle.lines.specs.Tokens.{piece}
 use Rattle.lines.proofs.Cutting.{going-on-behind-the-token, token-and-what-is-left}
-use Rattle.lines.proofs.tokens.Tokens.next.Needs as need
+use Rattle.lines.proofs.tokens.Tokens.cut.Needs as need
 
 pub returns : need.returns
 returns c =

@@ -4,7 +4,7 @@ use lib.ListN.{length, drop}
 use Rattle.std.proofs.shelf.Lists.{take-rest, length-drop}
 use Rattle.lines.specs.Tokens.{token-in-front, taken-off}
 use Rattle.lines.proofs.Cutting.{what-is-taken-off-comes-first}
-use Rattle.lines.proofs.tokens.cut.token_at.Needs as need
+use Rattle.lines.proofs.tokens.front.token_at.Needs as need
 
 pub returns : need.returns
 returns c =

@@ -31,7 +31,10 @@ fn front_number<'a>(behind: &'a [u8], at: usize) -> Option<Token<'a>>
     if n == 0 {
         return None;
     }
-    Some(Token::Number { bytes: &behind[0..n], at: at + 1 })
+    Some(Token::Number {
+        bytes: &behind[0..n],
+        at: at + 1,
+    })
 }
 
 /// The token in front of what is left of a line from a place on: a letter, or a space and then all the digits there.
@@ -42,7 +45,10 @@ fn front_token<'a>(rest: &'a [u8], at: usize) -> Option<Token<'a>>
 {
     let (first, behind) = rest.split_first()?;
     if first.is_ascii_alphabetic() {
-        return Some(Token::Letter { bytes: &rest[0..1], at });
+        return Some(Token::Letter {
+            bytes: &rest[0..1],
+            at,
+        });
     }
     if *first != b' ' {
         return None;
