@@ -1,0 +1,9 @@
+pub mod Cutting
+pub mod Fronts
+pub mod Handing
+pub mod Numbers
+pub mod Numerals
+pub mod Options
+pub mod Scripts
+pub mod Spaced
+pub mod Spelling
