@@ -1,0 +1,5 @@
+pub mod Numbers
+pub mod Fitting
+pub mod Lengths
+pub mod Back
+pub mod Forth

@@ -1,0 +1,4 @@
+pub mod Items
+pub mod Written
+pub mod Reading
+pub mod Laws
