@@ -3,3 +3,6 @@ pub mod Fitting
 pub mod Lengths
 pub mod Back
 pub mod Forth
+pub mod Places
+pub mod Accepting
+pub mod Standing

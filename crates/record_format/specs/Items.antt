@@ -24,6 +24,14 @@ within-tops ((j, v) ∷ ps) = leb v (top j) && within-tops ps
 abbrev pub fine-pairs : Pairs → Bool
 fine-pairs ps = is-write-set ps && within-tops ps
 
+-- a pair, unless its value is above its object's top
+abbrev pub topped : ℕ × ℕ → Option (ℕ × ℕ)
+topped p = cond (leb (p .1) (top (p .0))) (Some p) None
+
+-- pairs, where they are a write set within the tops
+abbrev pub accepted : Pairs → Option Pairs
+accepted ps = cond (fine-pairs ps) (Some ps) None
+
 -- what may stand at number n: a home from 0 to 7, an s below n, and a write set within the tops
 abbrev pub fits : ℕ → Item → Bool
 fits n it = leb (it .home) 7 && (ltb (it .s) n && fine-pairs (it .pairs))

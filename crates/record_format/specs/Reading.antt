@@ -1,9 +1,11 @@
 -- What bytes read as: the items of a run, or the number that a malformed record is refused with.
 use mathlib.Core.Bool.{Bool, cond, _&&_, _||_}
 use mathlib.Core.List.{List, [], _∷_}
-use Prim.Native.Nat.{ℕ, zero, suc, _+_, _*_}
+use Prim.Native.Nat.{ℕ, zero, suc, _+_, _-_, _*_}
 use lib.Dec.{eqb, leb, ltb}
 use lib.ListN.{length, getD, drop}
+use Rattle.std.specs.declared.option.Option.{Option}
+use Rattle.std.specs.declared.option.Option.the-variants.{Some, None}
 use Rattle.std.specs.declared.result.Result.{Result}
 use Rattle.std.specs.declared.result.Result.the-variants.{Ok, Err}
 use Rattle.tickets.specs.WriteSets.{Pairs}
@@ -17,10 +19,13 @@ two-of bs = getD bs 0 0 * 256 + getD bs 1 0
 abbrev pub four-of : List ℕ → ℕ
 four-of bs = getD bs 0 0 * 16777216 + getD bs 1 0 * 65536 + getD bs 2 0 * 256 + getD bs 3 0
 
--- k pairs from the front
+-- the pair in front, and k pairs from the front
+abbrev pub pair-in : List ℕ → ℕ × ℕ
+pair-in bs = (getD bs 0 0, four-of (drop 1 bs))
+
 abbrev pub pairs-in : ℕ → List ℕ → Pairs
 pairs-in zero bs = []
-pairs-in (suc k) bs = (getD bs 0 0, four-of (drop 1 bs)) ∷ pairs-in k (drop 5 bs)
+pairs-in (suc k) bs = pair-in bs ∷ pairs-in k (drop 5 bs)
 
 -- the size of the body that the entry in front announces
 abbrev pub size-in : List ℕ → ℕ
@@ -30,9 +35,17 @@ size-in es = 2 + 5 * getD es 1 0
 abbrev pub item-in : List ℕ → List ℕ → Item
 item-in es rs = record { home = getD es 0 0; s = two-of rs; pairs = pairs-in (getD es 1 0) (drop 2 rs) }
 
+-- the contents from the entry of item n on
+abbrev pub entry-of : ℕ → List ℕ → List ℕ
+entry-of n bs = drop (first-body (n - 1)) bs
+
 -- item n stands there: its offset is that of its body, its body is not cut short, and it may stand at its number
 abbrev pub stands : ℕ → ℕ → List ℕ → List ℕ → Bool
 stands n at es rs = eqb (two-of (drop 2 es)) at && (leb (size-in es) (length rs) && fits n (item-in es rs))
+
+-- the item of that number, with its body at a place of the record, where it stands there
+abbrev pub item-at : List ℕ → ℕ → ℕ → Option Item
+item-at bs n at = cond (stands n at (entry-of n bs) (drop at bs)) (Some (item-in (entry-of n bs) (drop at bs))) None
 
 -- an item before the others, where they read
 abbrev pub before : Item → Result (List Item) ℕ → Result (List Item) ℕ
