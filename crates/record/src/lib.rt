@@ -3,6 +3,7 @@ mod bytes;
 pub mod fault;
 mod items;
 pub mod numbered_set;
+mod walk;
 
 pub use fault::RecordFault;
 pub use numbered_set::NumberedSet;

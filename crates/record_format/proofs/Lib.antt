@@ -6,3 +6,4 @@ pub mod Forth
 pub mod Places
 pub mod Accepting
 pub mod Standing
+pub mod Walk

@@ -71,3 +71,20 @@ abbrev pub decoded : List ℕ → Result (List Item) ℕ
 decoded bs =
     cond (headless bs) (Err 0)
     (decoded-from (two-of bs) 1 (first-body (two-of bs)) (drop 2 bs) (drop (first-body (two-of bs)) bs))
+
+-- how many items read, or the number that the record is refused with
+abbrev pub count-of : Result (List Item) ℕ → Result ℕ ℕ
+count-of (Ok its) = Ok (length its)
+count-of (Err n) = Err n
+
+-- the items that a record gives: none where it does not read
+abbrev pub items-of : Result (List Item) ℕ → List Item
+items-of (Ok its) = its
+items-of (Err n) = []
+
+-- what stands at a number, counted from 1
+abbrev pub numbered : {A : Type 0} → List A → ℕ → Option A
+numbered xs zero = None
+numbered [] (suc k) = None
+numbered (x ∷ xs) (suc zero) = Some x
+numbered (x ∷ xs) (suc (suc k)) = numbered xs (suc k)

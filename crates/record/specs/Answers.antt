@@ -1,0 +1,26 @@
+-- What reading and writing answer, and what they leave.
+use mathlib.Core.List.{List, [], _∷_}
+use Prim.Native.Nat.{ℕ}
+use lib.ListN.{length}
+use Rattle.std.specs.declared.result.Result.{Result}
+use Rattle.std.specs.declared.result.Result.the-variants.{Ok, Err}
+use Rattle.std.specs.declared.option.Option.the-variants.{Some, None}
+use Rattle.record_format.specs.Items.{Item}
+use Rattle.record_format.specs.Reading.{decoded, count-of}
+use Rattle.record.specs.Faults.{Refusal}
+use Rattle.record.specs.declared.fault.RecordFault.{RecordFault}
+use Rattle.record.specs.declared.fault.RecordFault.the-variants.{Malformed}
+
+-- a malformed record is refused with 8, and the item is named
+abbrev pub or-malformed : {A : Type 0} → Result A ℕ → Result A Refusal
+or-malformed (Ok a) = Ok a
+or-malformed (Err item) = Err (Some 8, item ∷ [])
+
+-- how many items a record has
+abbrev pub check-answer : List ℕ → Result ℕ Refusal
+check-answer bs = or-malformed (count-of (decoded bs))
+
+-- the same, in the cases of the code
+abbrev pub verdict-of : Result ℕ ℕ → Result ℕ RecordFault
+verdict-of (Ok n) = Ok n
+verdict-of (Err item) = Err (Malformed item)
