@@ -1,7 +1,7 @@
-// One item of a record: its entry in the contents, and its body.
+// One item of a record, with its body at a place.
 ghost use mathlib.Core.Path.{_≡_};
-ghost use Prim.Native.Nat.{_+_, _-_, _*_, _≤_};
-ghost use lib.ListN.{length, drop};
+ghost use Prim.Native.Nat.{_*_, _≤_};
+ghost use lib.ListN.{length};
 ghost use Rattle.std.specs.Options.{mapped};
 ghost use Rattle.tickets.specs.Meaning.{set-pairs};
 ghost use Rattle.record_format.specs.Items.{accepted};
@@ -10,9 +10,9 @@ ghost use Rattle.record_format.specs.Reading.{pairs-in, item-at};
 ghost use Rattle.record.specs.Meaning.{item-of};
 use crate::bytes::pair_at;
 use crate::bytes::two_at;
+use crate::entry::Entry;
+use crate::entry::entry_of;
 use crate::numbered_set::NumberedSet;
-use record_format::COUNT_BYTES;
-use record_format::ENTRY_BYTES;
 use record_format::LAST_HOME;
 use record_format::PAIR_BYTES;
 use record_format::S_BYTES;
@@ -40,11 +40,7 @@ pub(crate) fn item_at(bytes: &[u8], n: usize, at: usize) -> Option<NumberedSet>
     requires { ⌜ at ≤ length (now bytes) ⌝ }
     ensures answer { λ r. ⌜ mapped item-of r ≡ item-at (now (bytes .entry)) n at ⌝ }
 {
-    let entry = COUNT_BYTES + ENTRY_BYTES * (n - 1);
-    let home = bytes[entry];
-    let count = usize::from(bytes[entry + 1]);
-    let offset = usize::from(two_at(bytes, entry + 2));
-    let size = S_BYTES + PAIR_BYTES * count;
+    let Entry { home, pairs, size, offset } = entry_of(bytes, n);
     let room = bytes.len() - at;
     if offset != at || size > room || home > LAST_HOME {
         return None;
@@ -53,6 +49,6 @@ pub(crate) fn item_at(bytes: &[u8], n: usize, at: usize) -> Option<NumberedSet>
     if usize::from(s) >= n {
         return None;
     }
-    let set = write_set(&bytes[at + S_BYTES..], count)?;
+    let set = write_set(&bytes[at + S_BYTES..], pairs)?;
     Some(NumberedSet { home, s, set })
 }

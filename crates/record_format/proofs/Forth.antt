@@ -94,7 +94,7 @@ first-forth k n at (a ∷ b ∷ c ∷ d ∷ es) rs rest he hr long t w =
     }
 
 -- where an item before the others reads, the others do
-others-read : (it : Item) (r : Result (List Item) ℕ) (its : List Item) → before it r ≡ Ok its → (rest : List Item) × ((r ≡ Ok rest) × (it ∷ rest ≡ its))
+pub others-read : (it : Item) (r : Result (List Item) ℕ) (its : List Item) → before it r ≡ Ok its → (rest : List Item) × ((r ≡ Ok rest) × (it ∷ rest ≡ its))
 others-read it (Ok rest) its e = (rest, (refl, cc))
 others-read it (Err n) its e = absurd (let z : _≡_ {A = ℕ} 0 1 = cc in omega arith)
 

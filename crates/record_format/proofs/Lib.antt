@@ -7,3 +7,4 @@ pub mod Places
 pub mod Accepting
 pub mod Standing
 pub mod Walk
+pub mod Numbering

@@ -26,21 +26,25 @@ rest bs count i at = decoded-from (count - i) (i + 1) at (drop (first-body i) bs
 
 -- ---- where an item stands, and where it does not
 
-here : (i : ℕ) (bs : List ℕ) → entry-of (i + 1) bs ≡ drop (first-body i) bs
+pub here : (i : ℕ) (bs : List ℕ) → entry-of (i + 1) bs ≡ drop (first-body i) bs
 here i bs = let e : first-body (i + 1 - 1) ≡ first-body i = omega arith in ap (λ m. drop m bs) e
 
 pub record Stood (bs : List ℕ) (i at : ℕ) (it : Item) : Type 0 where
   pub stood : stands (i + 1) at (drop (first-body i) bs) (drop at bs) ≡ true
   pub is : item-in (drop (first-body i) bs) (drop at bs) ≡ it
 
+pub stands-there : (bs : List ℕ) (n at : ℕ) (it : Item) → Some it ≡ item-at bs n at → (stands n at (entry-of n bs) (drop at bs) ≡ true) × (item-in (entry-of n bs) (drop at bs) ≡ it)
+stands-there bs n at it e =
+    elim (cases-bool (stands n at (entry-of n bs) (drop at bs))) [
+      inl t ↦ (t, let g = e ∙ cond-true _ _ _ t in cc)
+    | inr t ↦ absurd (let g = e ∙ cond-false _ _ _ t in let z : _≡_ {A = ℕ} 0 1 = cc in omega arith)
+    ]
+
 pub stood : (bs : List ℕ) (i at : ℕ) (it : Item) → Some it ≡ item-at bs (i + 1) at → Stood bs i at it
 stood bs i at it e =
     let h = here i bs in
-    let f = e ∙ (λ j. cond (stands (i + 1) at (h j) (drop at bs)) (Some (item-in (h j) (drop at bs))) None) in
-    elim (cases-bool (stands (i + 1) at (drop (first-body i) bs) (drop at bs))) [
-      inl t ↦ record { stood = t; is = let g = f ∙ cond-true _ _ _ t in cc }
-    | inr t ↦ absurd (let g = f ∙ cond-false _ _ _ t in let z : _≡_ {A = ℕ} 0 1 = cc in omega arith)
-    ]
+    let t = stands-there bs (i + 1) at it e in
+    record { stood = ap (λ es. stands (i + 1) at es (drop at bs)) (sym h) ∙ t .0; is = ap (λ es. item-in es (drop at bs)) (sym h) ∙ t .1 }
 
 not-stood : (bs : List ℕ) (i at : ℕ) → None ≡ item-at bs (i + 1) at → stands (i + 1) at (drop (first-body i) bs) (drop at bs) ≡ false
 not-stood bs i at e =

@@ -1,16 +1,18 @@
 -- What bytes read as: the items of a run, or the number that a malformed record is refused with.
+use mathlib.Core.Path.{_≡_}
 use mathlib.Core.Bool.{Bool, cond, _&&_, _||_}
 use mathlib.Core.List.{List, [], _∷_}
 use Prim.Native.Nat.{ℕ, zero, suc, _+_, _-_, _*_}
 use lib.Dec.{eqb, leb, ltb}
 use lib.ListN.{length, getD, drop}
+use Rattle.std.specs.Options.{mapped}
 use Rattle.std.specs.declared.option.Option.{Option}
 use Rattle.std.specs.declared.option.Option.the-variants.{Some, None}
 use Rattle.std.specs.declared.result.Result.{Result}
 use Rattle.std.specs.declared.result.Result.the-variants.{Ok, Err}
 use Rattle.tickets.specs.WriteSets.{Pairs}
 use Rattle.record_format.specs.Items.{Item, fits}
-use Rattle.record_format.specs.Written.{first-body}
+use Rattle.record_format.specs.Written.{first-body, placed-bodies}
 
 -- the number that the first two bytes give, and the first four
 abbrev pub two-of : List ℕ → ℕ
@@ -38,6 +40,13 @@ item-in es rs = record { home = getD es 0 0; s = two-of rs; pairs = pairs-in (ge
 -- the contents from the entry of item n on
 abbrev pub entry-of : ℕ → List ℕ → List ℕ
 entry-of n bs = drop (first-body (n - 1)) bs
+
+-- what the entry of item n says: its home, how many pairs it has and so how many bytes, and the offset of its body
+pub record Entered (bs : List ℕ) (n home pairs size offset : ℕ) : Type 0 where
+  pub home-is : home ≡ getD bs (first-body (n - 1)) 0
+  pub pairs-is : pairs ≡ getD bs (first-body (n - 1) + 1) 0
+  pub size-is : size ≡ 2 + 5 * pairs
+  pub offset-is : offset ≡ two-of (drop (first-body (n - 1) + 2) bs)
 
 -- item n stands there: its offset is that of its body, its body is not cut short, and it may stand at its number
 abbrev pub stands : ℕ → ℕ → List ℕ → List ℕ → Bool
@@ -82,9 +91,23 @@ abbrev pub items-of : Result (List Item) ℕ → List Item
 items-of (Ok its) = its
 items-of (Err n) = []
 
+abbrev pub items-in : List ℕ → List Item
+items-in bs = items-of (decoded bs)
+
+-- its bodies, each with its place
+abbrev pub bodies-in : List ℕ → List (List ℕ × ℕ)
+bodies-in bs = placed-bodies (first-body (length (items-in bs))) (items-in bs)
+
 -- what stands at a number, counted from 1
 abbrev pub numbered : {A : Type 0} → List A → ℕ → Option A
 numbered xs zero = None
 numbered [] (suc k) = None
 numbered (x ∷ xs) (suc zero) = Some x
 numbered (x ∷ xs) (suc (suc k)) = numbered xs (suc k)
+
+-- the place and the length of the body of item n, where there is such an item
+abbrev pub span : List ℕ × ℕ → ℕ × ℕ
+span p = (p .1, length (p .0))
+
+abbrev pub span-in : List ℕ → ℕ → Option (ℕ × ℕ)
+span-in bs n = mapped span (numbered (bodies-in bs) n)

@@ -33,6 +33,11 @@ contents at (it ∷ its) = entry at it ++ contents (at + length (body it)) its
 abbrev pub bodies : List Item → List ℕ
 bodies its = joined body its
 
+-- the bodies, each with its place in the record, where the first lies at the offset
+abbrev pub placed-bodies : ℕ → List Item → List (List ℕ × ℕ)
+placed-bodies at [] = []
+placed-bodies at (it ∷ its) = (body it, at) ∷ placed-bodies (at + length (body it)) its
+
 -- the offset of the first body of n: behind the count and the contents
 abbrev pub first-body : ℕ → ℕ
 first-body n = 2 + 4 * n
