@@ -3,11 +3,18 @@ use mathlib.Core.Path.{_≡_, refl, sym, _∙_}
 use mathlib.Core.List.{List, [], _∷_}
 use Prim.Native.Nat.{ℕ, suc, _<_}
 use native.Mathlib.Omega.{arith}
-use lib.ListN.{getD}
+use lib.ListN.{getD, length}
 use Rattle.std.specs.declared.result.Result.{Result}
 use Rattle.std.specs.declared.result.Result.the-variants.{Ok, Err}
+use Rattle.record_format.specs.Items.{Item}
+use Rattle.record_format.specs.Reading.{count-of, items-read}
 use Rattle.record_format.specs.Laws.{Bytes}
-use Rattle.record.specs.Answers.{or-malformed, verdict-of}
+use Rattle.std.specs.Of.Vec.{vec-items}
+use Rattle.std.specs.declared.vec.Vec.{Vec}
+use Rattle.std.specs.declared.alloc.Global.{Global}
+use Rattle.record.specs.Answers.{or-malformed, verdict-of, Reads}
+use Rattle.record.specs.Meaning.{items-of}
+use Rattle.record.specs.declared.numbered_set.NumberedSet.{NumberedSet}
 use Rattle.record.specs.Faults.{listed}
 use Rattle.record.specs.declared.fault.RecordFault.{RecordFault}
 use Rattle.record.specs.declared.fault.RecordFault.the-variants.{Malformed}
@@ -27,3 +34,12 @@ refused (Err item) e f = (item, refl)
 pub bytes-by : (bs : List ℕ) → ((i : ℕ) → getD bs i 0 < 256) → Bytes bs
 bytes-by [] h = tt
 bytes-by (b ∷ bs) h = (h 0, bytes-by bs (λ i. h (suc i)))
+
+-- how many items there are, from the answer
+pub items-counted : (r : Result (List Item) ℕ) (n : ℕ) → Ok n ≡ or-malformed (count-of r) → length (items-read r) ≡ n
+items-counted (Ok its) n e = cc
+items-counted (Err item) n e = absurd (let z : _≡_ {A = ℕ} 0 1 = cc in omega arith)
+
+pub reads : (r : Result (List Item) ℕ) (n : ℕ) (v : Vec NumberedSet Global) → Ok n ≡ or-malformed (count-of r) → items-of (vec-items v) ≡ items-read r → Reads r (Ok v)
+reads (Ok its) n v e h = h
+reads (Err item) n v e h = absurd (let z : _≡_ {A = ℕ} 0 1 = cc in omega arith)

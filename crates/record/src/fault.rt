@@ -1,4 +1,6 @@
 // Why a record is not read, or not written.
+ghost use mathlib.Core.Path.{_≡_};
+ghost use Rattle.record.specs.declared.fault.RecordFault.the-variants.{NoMemory};
 use std::alloc::AllocError;
 
 #[derive(Clone, Copy, PartialEq, Eq, Debug)]
@@ -14,6 +16,8 @@ pub enum RecordFault {
 }
 
 pub impl From<AllocError> for RecordFault as FromAllocError {
+    ghost converts = { λ e r. r ≡ NoMemory };
+
     fn from(_e: AllocError) -> RecordFault {
         RecordFault::NoMemory
     }

@@ -5,9 +5,13 @@ pub mod fault;
 mod items;
 pub mod numbered_set;
 pub mod reader;
+pub mod reads;
 mod walk;
 
 pub use fault::RecordFault;
 pub use numbered_set::NumberedSet;
 pub use reader::Body;
 pub use reader::Reader;
+pub use reads::check;
+pub use reads::play;
+pub use reads::read;

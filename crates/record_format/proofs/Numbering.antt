@@ -4,6 +4,7 @@ use mathlib.Core.Logic.{_⊎_, inl, inr}
 use mathlib.Core.Bool.{Bool, true, false, cond}
 use mathlib.Core.List.{List, [], _∷_}
 use Prim.Native.Nat.{ℕ, zero, suc, _+_, _-_, _*_, _<_, _≤_}
+use native.Mathlib.Numerals.{add-one}
 use native.Mathlib.Omega.{arith}
 use lib.ListN.{length, getD, take, drop}
 use Rattle.std.specs.Options.{mapped}
@@ -16,7 +17,7 @@ use Rattle.std.proofs.shelf.Elements.{all-drop}
 use Rattle.std.proofs.shelf.Lists.{drop-drop, length-drop, length-take-le, getD-drop}
 use Rattle.record_format.specs.Items.{Item}
 use Rattle.record_format.specs.Written.{body, first-body, placed-bodies}
-use Rattle.record_format.specs.Reading.{two-of, item-in, size-in, entry-of, Entered, stands, item-at, before, decoded-from, headless, decoded, count-of, items-of, items-in, bodies-in, numbered, span, span-in}
+use Rattle.record_format.specs.Reading.{two-of, item-in, size-in, entry-of, Entered, stands, item-at, before, decoded-from, headless, decoded, count-of, items-read, items-in, bodies-in, numbered, span, span-in}
 use Rattle.record_format.specs.Laws.{Bytes}
 use Rattle.record_format.proofs.Lengths.{length-body}
 use Rattle.record_format.proofs.Forth.{length-pairs-in, stands-parts, body-forth, others-read, head}
@@ -101,7 +102,7 @@ pub record Whole (bs : List ℕ) (count : ℕ) : Type 0 where
   pub all : rest bs count 0 (first-body count) ≡ Ok (items-in bs)
   pub long : first-body count ≤ length bs
 
-counted-items : (r : Result (List Item) ℕ) (count : ℕ) → Ok count ≡ count-of r → (r ≡ Ok (items-of r)) × (length (items-of r) ≡ count)
+counted-items : (r : Result (List Item) ℕ) (count : ℕ) → Ok count ≡ count-of r → (r ≡ Ok (items-read r)) × (length (items-read r) ≡ count)
 counted-items (Ok its) count e = (refl, let f = e in cc)
 counted-items (Err n) count e = absurd (let z : _≡_ {A = ℕ} 0 1 = cc in omega arith)
 
@@ -162,7 +163,7 @@ length-placed at (it ∷ its) = ap suc (length-placed (at + length (body it)) it
 pub no-span-unread : (bs : List ℕ) (n item : ℕ) → Err item ≡ count-of (decoded bs) → None ≡ span-in bs n
 no-span-unread bs n item e = sym (unread (decoded bs) e)
   where
-    unread : (r : Result (List Item) ℕ) → Err item ≡ count-of r → mapped span (numbered (placed-bodies (first-body (length (items-of r))) (items-of r)) n) ≡ None
+    unread : (r : Result (List Item) ℕ) → Err item ≡ count-of r → mapped span (numbered (placed-bodies (first-body (length (items-read r))) (items-read r)) n) ≡ None
     unread (Ok its) f = absurd (let z : _≡_ {A = ℕ} 0 1 = cc in omega arith)
     unread (Err m) f = ap (mapped span) (numbered-nothing n)
 
@@ -222,7 +223,7 @@ mapped-some : {A B : Type 0} (f : A → B) (o : Option A) (y : B) → Some y ≡
 mapped-some f None y e = absurd (let z : _≡_ {A = ℕ} 0 1 = cc in omega arith)
 mapped-some f (Some x) y e = (x, (refl, let g = e in cc))
 
-items-counted : (r : Result (List Item) ℕ) → 0 < length (items-of r) → Ok (length (items-of r)) ≡ count-of r
+items-counted : (r : Result (List Item) ℕ) → 0 < length (items-read r) → Ok (length (items-read r)) ≡ count-of r
 items-counted (Ok its) h = refl
 items-counted (Err n) h = absurd (omega arith)
 
@@ -266,3 +267,21 @@ module _ (bs : List ℕ) (n at size : ℕ) (p : Placed bs n at size) where
       let l = length-drop at bs in
       let t = length-take-le (at + size - at) (drop at bs) (omega (arith, p .room)) in
       ap (λ k. take k (drop at bs)) (sym t)
+
+-- ---- the items one after the other
+
+next-suc : {A : Type 0} (xs : List A) (i : ℕ) (x : A) → Some x ≡ numbered xs (suc i) → drop i xs ≡ x ∷ drop (suc i) xs
+next-suc [] i x e = absurd (let z : _≡_ {A = ℕ} 0 1 = cc in omega arith)
+next-suc (y ∷ xs) zero x e = let f : x ≡ y = cc in ap (λ w. w ∷ xs) (sym f)
+next-suc (y ∷ xs) (suc i) x e = next-suc xs i x e
+
+pub next-item : {A : Type 0} (xs : List A) (i : ℕ) (x : A) → Some x ≡ numbered xs (i + 1) → drop i xs ≡ x ∷ drop (i + 1) xs
+next-item xs i x e = next-suc xs i x (e ∙ ap (numbered xs) (add-one i)) ∙ ap (λ k. x ∷ drop k xs) (sym (add-one i))
+
+none-suc : {A : Type 0} (xs : List A) (i : ℕ) → None ≡ numbered xs (suc i) → length xs ≤ i
+none-suc [] i e = omega arith
+none-suc (y ∷ xs) zero e = absurd (let z : _≡_ {A = ℕ} 0 1 = cc in omega arith)
+none-suc (y ∷ xs) (suc i) e = let h = none-suc xs i e in omega arith
+
+pub no-next : {A : Type 0} (xs : List A) (i : ℕ) → None ≡ numbered xs (i + 1) → length xs ≤ i
+no-next xs i e = none-suc xs i (e ∙ ap (numbered xs) (add-one i))

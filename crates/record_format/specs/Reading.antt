@@ -87,12 +87,12 @@ count-of (Ok its) = Ok (length its)
 count-of (Err n) = Err n
 
 -- the items that a record gives: none where it does not read
-abbrev pub items-of : Result (List Item) ℕ → List Item
-items-of (Ok its) = its
-items-of (Err n) = []
+abbrev pub items-read : Result (List Item) ℕ → List Item
+items-read (Ok its) = its
+items-read (Err n) = []
 
 abbrev pub items-in : List ℕ → List Item
-items-in bs = items-of (decoded bs)
+items-in bs = items-read (decoded bs)
 
 -- its bodies, each with its place
 abbrev pub bodies-in : List ℕ → List (List ℕ × ℕ)

@@ -1,0 +1,53 @@
+// Checking, reading and playing a whole record.
+ghost use mathlib.Core.Path.{_≡_};
+ghost use Rattle.std.specs.Of.Vec.{vec-items};
+ghost use Rattle.std.specs.Vec.{made};
+ghost use Rattle.tickets.specs.Meaning.{values};
+ghost use Rattle.record_format.specs.Items.{play-all};
+ghost use Rattle.record_format.specs.Reading.{decoded, items-in};
+ghost use Rattle.record.specs.Answers.{check-answer, Reads};
+ghost use Rattle.record.specs.Faults.{listed};
+ghost use Rattle.record.specs.Meaning.{items-of};
+use crate::fault::FromAllocError;
+use crate::fault::RecordFault;
+use crate::numbered_set::NumberedSet;
+use crate::reader::Reader;
+use std::alloc::Global;
+use tickets::Board;
+
+/// How many items a record has.
+pub fn check(bytes: &[u8]) -> Result<usize, RecordFault>
+    ensures answer { λ r. ⌜ listed r ≡ check-answer (now (bytes .entry)) ⌝ }
+{
+    Reader::new(bytes).count()
+}
+
+/// Plays the write sets of a record over a board, in number order, and answers how many; one that does not read leaves the board.
+pub fn play(bytes: &[u8], board: &mut Board) -> Result<usize, RecordFault>
+    ensures answer { λ r. ⌜ listed r ≡ check-answer (now (bytes .entry)) ⌝ }
+    ensures after { λ _. ⌜ values (now (board .exit)) ≡ play-all (items-in (now (bytes .entry))) (values (now (board .entry))) ⌝ }
+{
+    let reader = Reader::new(bytes);
+    let count = reader.count()?;
+    for i in 0..count {
+        if let Some(item) = reader.item(i + 1) {
+            item.set.play(board);
+        }
+    }
+    Ok(count)
+}
+
+/// Reads a record into numbered write sets of the caller's own.
+pub fn read(heap: Global, bytes: &[u8]) -> Result<Vec<NumberedSet>, RecordFault>
+    ensures answer { λ r. ⌜ Reads (decoded (now (bytes .entry))) r ⌝ }
+{
+    let reader = Reader::new(bytes);
+    let count = reader.count()?;
+    let mut sets = Vec::with_capacity(heap, count)?;
+    for i in 0..count {
+        if let Some(item) = reader.item(i + 1) {
+            sets.push_reserved(item);
+        }
+    }
+    Ok(sets)
+}
