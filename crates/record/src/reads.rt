@@ -4,14 +4,15 @@ ghost use Rattle.std.specs.Of.Vec.{vec-items};
 ghost use Rattle.std.specs.Vec.{made};
 ghost use Rattle.tickets.specs.Meaning.{values};
 ghost use Rattle.record_format.specs.Items.{play-all};
+ghost use Rattle.record_format.specs.Written.{encoded};
 ghost use Rattle.record_format.specs.Reading.{decoded, items-in};
-ghost use Rattle.record.specs.Answers.{check-answer, Reads};
-ghost use Rattle.record.specs.Faults.{listed};
-ghost use Rattle.record.specs.Meaning.{items-of};
-use crate::fault::FromAllocError;
-use crate::fault::RecordFault;
-use crate::numbered_set::NumberedSet;
-use crate::reader::Reader;
+ghost use Rattle.record_format.specs.Calls.{check-answer, Reads};
+ghost use Rattle.record_format.specs.Faults.{listed};
+ghost use Rattle.record_format.specs.Meaning.{items-of};
+use record_format::FromAllocError;
+use record_format::RecordFault;
+use record_format::NumberedSet;
+use record_reader::Reader;
 use std::alloc::Global;
 use tickets::Board;
 
@@ -37,9 +38,10 @@ pub fn play(bytes: &[u8], board: &mut Board) -> Result<usize, RecordFault>
     Ok(count)
 }
 
-/// Reads a record into numbered write sets of the caller's own.
+/// Reads a record into numbered write sets of the caller's own. Written again, they give the same bytes.
 pub fn read(heap: Global, bytes: &[u8]) -> Result<Vec<NumberedSet>, RecordFault>
     ensures answer { λ r. ⌜ Reads (decoded (now (bytes .entry))) r ⌝ }
+    ensures writes_back { λ r. ⌜ made r (λ sets. encoded (items-of (vec-items sets)) ≡ now (bytes .entry)) ⌝ }
 {
     let reader = Reader::new(bytes);
     let count = reader.count()?;

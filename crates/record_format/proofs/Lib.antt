@@ -8,3 +8,5 @@ pub mod Accepting
 pub mod Standing
 pub mod Walk
 pub mod Numbering
+pub mod Verdicts
+pub mod Whole

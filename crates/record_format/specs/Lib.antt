@@ -2,3 +2,6 @@ pub mod Items
 pub mod Written
 pub mod Reading
 pub mod Laws
+pub mod Faults
+pub mod Meaning
+pub mod Calls

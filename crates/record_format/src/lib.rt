@@ -1,6 +1,13 @@
 // The format of the run record, and the laws that every run and every record keep.
 ghost use Rattle.record_format.specs.Laws.{RoundTrips, SizeLaws, Examples};
 
+pub mod fault;
+pub mod numbered_set;
+
+pub use fault::FromAllocError;
+pub use fault::RecordFault;
+pub use numbered_set::NumberedSet;
+
 /// The most items that a run has.
 pub const MOST_ITEMS: usize = 256;
 

@@ -6,10 +6,10 @@ use Rattle.tickets.specs.Boards.{Board}
 use Rattle.tickets.specs.Meaning.{values}
 use Rattle.record_format.specs.Items.{play-all}
 use Rattle.record_format.specs.Reading.{decoded, items-in}
-use Rattle.record.specs.Answers.{check-answer}
-use Rattle.record.specs.Meaning.{item-of}
-use Rattle.record.proofs.Verdicts.{items-counted}
-use Rattle.record.proofs.Whole.{same-record, never-none, play-next, all-played}
+use Rattle.record_format.specs.Calls.{check-answer}
+use Rattle.record_format.specs.Meaning.{item-of}
+use Rattle.record_format.proofs.Verdicts.{items-counted}
+use Rattle.record_format.proofs.Whole.{same-record, never-none, play-next, all-played}
 use Rattle.record.proofs.reads.play.Needs as need
 use Rattle.record.proofs.reads.play.Needs.{in-Some, in-rest}
 

@@ -4,11 +4,12 @@ use native.Mathlib.Omega.{arith}
 use lib.ListN.{length, take}
 use Rattle.std.specs.Of.Vec.{vec-items, vec-len, vec-cap}
 use Rattle.std.proofs.shelf.Lists.{take-all}
+use Rattle.record_format.specs.Written.{encoded}
 use Rattle.record_format.specs.Reading.{decoded, items-in}
-use Rattle.record.specs.Answers.{check-answer}
-use Rattle.record.specs.Meaning.{item-of, items-of}
-use Rattle.record.proofs.Verdicts.{items-counted, reads}
-use Rattle.record.proofs.Whole.{same-record, never-none, gather-next}
+use Rattle.record_format.specs.Calls.{check-answer}
+use Rattle.record_format.specs.Meaning.{item-of, items-of}
+use Rattle.record_format.proofs.Verdicts.{items-counted, reads, written-back}
+use Rattle.record_format.proofs.Whole.{same-record, never-none, gather-next}
 use Rattle.record.proofs.reads.read.Needs as need
 use Rattle.record.proofs.reads.read.Needs.{in-Some, in-rest}
 
@@ -35,4 +36,8 @@ returns c =
     let bs = c .args .bytes .now in
     let count = c .in-Continue-count .ensures tt .answer ∙ ap check-answer (c .new-reader .ensures .answer) in
     let n = items-counted (decoded bs) (c .in-Continue-count .count) count in
-    record { answer = reads (decoded bs) (c .in-Continue-count .count) (c .loop-i .sets) count (c .loop-i .inv .2 ∙ take-all (c .loop-i .i) (items-in bs) (omega arith)) }
+    let all = c .loop-i .inv .2 ∙ take-all (c .loop-i .i) (items-in bs) (omega arith) in
+    record {
+      answer = reads (decoded bs) (c .in-Continue-count .count) (c .loop-i .sets) count all;
+      writes-back = ap encoded all ∙ written-back bs (c .in-Continue-count .count) (λ i. c .typed .bytes i .fits) count;
+    }

@@ -3,7 +3,7 @@ use Prim.Native.Nat.{_≤_}
 use lib.ListN.{take}
 use Rattle.std.specs.Of.Vec.{vec-items, vec-len, vec-cap}
 use Rattle.record_format.specs.Reading.{items-in}
-use Rattle.record.specs.Meaning.{items-of}
+use Rattle.record_format.specs.Meaning.{items-of}
 use Rattle.record.proofs.reads.read.Given as given
 
 abbrev pub Inv-loop-i : given.InvT-loop-i

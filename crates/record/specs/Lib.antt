@@ -1,4 +1,0 @@
-pub mod Faults
-pub mod Meaning
-pub mod Answers
-pub mod Readers

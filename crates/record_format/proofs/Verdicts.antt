@@ -1,0 +1,55 @@
+-- What a reader's verdict tells of its record.
+use mathlib.Core.Path.{_≡_, refl, sym, _∙_}
+use mathlib.Core.List.{List, [], _∷_}
+use Prim.Native.Nat.{ℕ, suc, _<_}
+use native.Mathlib.Omega.{arith}
+use lib.ListN.{getD, length}
+use Rattle.std.specs.declared.result.Result.{Result}
+use Rattle.std.specs.declared.result.Result.the-variants.{Ok, Err}
+use Rattle.record_format.specs.Items.{Item}
+use Rattle.record_format.specs.Written.{encoded}
+use Rattle.record_format.specs.Reading.{decoded, count-of, items-read, items-in}
+use Rattle.record_format.specs.Laws.{Bytes}
+use Rattle.record_format.proofs.Forth.{writes-back}
+use Rattle.std.specs.Of.Vec.{vec-items}
+use Rattle.std.specs.declared.vec.Vec.{Vec}
+use Rattle.std.specs.declared.alloc.Global.{Global}
+use Rattle.record_format.specs.Calls.{or-malformed, verdict-of, Reads}
+use Rattle.record_format.specs.Meaning.{items-of}
+use Rattle.record_format.specs.declared.numbered_set.NumberedSet.{NumberedSet}
+use Rattle.record_format.specs.Faults.{listed}
+use Rattle.record_format.specs.declared.fault.RecordFault.{RecordFault}
+use Rattle.record_format.specs.declared.fault.RecordFault.the-variants.{Malformed}
+
+pub listed-verdict : (r : Result ℕ ℕ) → listed (verdict-of r) ≡ or-malformed r
+listed-verdict (Ok n) = refl
+listed-verdict (Err item) = refl
+
+pub counted : (r : Result ℕ ℕ) (n : ℕ) → verdict-of r ≡ Ok n → Ok n ≡ r
+counted (Ok m) n e = cc
+counted (Err item) n e = absurd (let z : _≡_ {A = ℕ} 0 1 = cc in omega arith)
+
+pub refused : (r : Result ℕ ℕ) (e : RecordFault) → verdict-of r ≡ Err e → (item : ℕ) × (Err item ≡ r)
+refused (Ok m) e f = absurd (let z : _≡_ {A = ℕ} 0 1 = cc in omega arith)
+refused (Err item) e f = (item, refl)
+
+pub bytes-by : (bs : List ℕ) → ((i : ℕ) → getD bs i 0 < 256) → Bytes bs
+bytes-by [] h = tt
+bytes-by (b ∷ bs) h = (h 0, bytes-by bs (λ i. h (suc i)))
+
+-- how many items there are, from the answer
+pub items-counted : (r : Result (List Item) ℕ) (n : ℕ) → Ok n ≡ or-malformed (count-of r) → length (items-read r) ≡ n
+items-counted (Ok its) n e = cc
+items-counted (Err item) n e = absurd (let z : _≡_ {A = ℕ} 0 1 = cc in omega arith)
+
+pub reads : (r : Result (List Item) ℕ) (n : ℕ) (v : Vec NumberedSet Global) → Ok n ≡ or-malformed (count-of r) → items-of (vec-items v) ≡ items-read r → Reads r (Ok v)
+reads (Ok its) n v e h = h
+reads (Err item) n v e h = absurd (let z : _≡_ {A = ℕ} 0 1 = cc in omega arith)
+
+read-items : (r : Result (List Item) ℕ) (n : ℕ) → Ok n ≡ or-malformed (count-of r) → r ≡ Ok (items-read r)
+read-items (Ok its) n e = refl
+read-items (Err item) n e = absurd (let z : _≡_ {A = ℕ} 0 1 = cc in omega arith)
+
+-- what was read is written back as the same bytes
+pub written-back : (bs : List ℕ) (n : ℕ) → ((i : ℕ) → getD bs i 0 < 256) → Ok n ≡ or-malformed (count-of (decoded bs)) → encoded (items-in bs) ≡ bs
+written-back bs n small e = writes-back bs (items-in bs) (bytes-by bs small) (read-items (decoded bs) n e)

@@ -1,0 +1,39 @@
+-- What reading and writing answer, and what they leave.
+use mathlib.Core.Path.{_≡_}
+use mathlib.Core.List.{List, [], _∷_}
+use Prim.Native.Nat.{ℕ}
+use lib.ListN.{length}
+use Rattle.std.specs.declared.result.Result.{Result}
+use Rattle.std.specs.declared.result.Result.the-variants.{Ok, Err}
+use Rattle.std.specs.declared.option.Option.the-variants.{Some, None}
+use Rattle.std.specs.Of.Vec.{vec-items}
+use Rattle.std.specs.declared.vec.Vec.{Vec}
+use Rattle.std.specs.declared.alloc.Global.{Global}
+use Rattle.record_format.specs.Items.{Item}
+use Rattle.record_format.specs.Reading.{decoded, count-of}
+use Rattle.record_format.specs.Faults.{Refusal, refusal-of}
+use Rattle.record_format.specs.Meaning.{items-of}
+use Rattle.record_format.specs.declared.numbered_set.NumberedSet.{NumberedSet}
+use Rattle.record_format.specs.declared.fault.RecordFault.{RecordFault}
+use Rattle.record_format.specs.declared.fault.RecordFault.the-variants.{Malformed}
+
+-- a malformed record is refused with 8, and the item is named
+abbrev pub or-malformed : {A : Type 0} → Result A ℕ → Result A Refusal
+or-malformed (Ok a) = Ok a
+or-malformed (Err item) = Err (Some 8, item ∷ [])
+
+-- how many items a record has
+abbrev pub check-answer : List ℕ → Result ℕ Refusal
+check-answer bs = or-malformed (count-of (decoded bs))
+
+-- the same, in the cases of the code
+abbrev pub verdict-of : Result ℕ ℕ → Result ℕ RecordFault
+verdict-of (Ok n) = Ok n
+verdict-of (Err item) = Err (Malformed item)
+
+-- the write sets of a record that reads, unless there is no memory for them
+abbrev pub Reads : Result (List Item) ℕ → Result (Vec NumberedSet Global) RecordFault → Type 0
+Reads (Ok its) (Ok sets) = items-of (vec-items sets) ≡ its
+Reads (Ok its) (Err e) = refusal-of e ≡ (None, [])
+Reads (Err item) (Ok sets) = ⊥
+Reads (Err item) (Err e) = refusal-of e ≡ (Some 8, item ∷ [])
