@@ -10,3 +10,5 @@ pub mod Walk
 pub mod Numbering
 pub mod Verdicts
 pub mod Whole
+pub mod Writing
+pub mod Sets

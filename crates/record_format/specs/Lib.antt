@@ -4,4 +4,5 @@ pub mod Reading
 pub mod Laws
 pub mod Faults
 pub mod Meaning
+pub mod Buffers
 pub mod Calls

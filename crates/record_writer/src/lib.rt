@@ -1,0 +1,3 @@
+// Writing the run record into a buffer that the caller lends.
+mod bytes;
+mod runs;
