@@ -3,7 +3,7 @@ use mathlib.Core.Path.{_≡_, refl, sym, ap, _∙_}
 use mathlib.Core.Logic.{_⊎_, inl, inr}
 use mathlib.Core.Bool.{Bool, true, false, cond, _&&_}
 use mathlib.Core.List.{List, [], _∷_, _++_, map}
-use Prim.Native.Nat.{ℕ, _+_, _*_, _<_, _≤_}
+use Prim.Native.Nat.{ℕ, zero, suc, _+_, _*_, _<_, _≤_}
 use native.Mathlib.Omega.{arith}
 use lib.Dec.{leb, ltb}
 use lib.ListN.{length, getD, take, drop}
@@ -11,19 +11,21 @@ use Rattle.std.specs.Joined.{joined}
 use Rattle.std.specs.declared.option.Option.{Option}
 use Rattle.std.specs.declared.option.Option.the-variants.{Some, None}
 use Rattle.std.specs.declared.result.Result.the-variants.{Ok, Err}
-use Rattle.std.proofs.shelf.Tests.{and-left, and-right, and-from, le-leb, lt-leb, le-ltb, lt-ltb, ltb-true, ltb-false, cond-true, cond-false, cases-bool}
-use Rattle.std.proofs.shelf.Lists.{drop-more, drop-all, take-more, take-all, length-map, getD-map, getD-default, length-append, joined-more}
+use Rattle.std.proofs.shelf.Tests.{and-parts, and-left, and-right, and-from, le-leb, lt-leb, le-ltb, lt-ltb, ltb-true, ltb-false, cond-true, cond-false, cases-bool}
+use Rattle.std.proofs.shelf.Lists.{length-take-le, drop-more, drop-all, take-more, take-all, length-map, getD-map, getD-default, length-append, joined-more}
 use Rattle.tickets.specs.Boards.{top}
 use Rattle.tickets.specs.WriteSets.{Pairs, is-write-set, rising}
 use Rattle.tickets.specs.Meaning.{pairs}
 use Rattle.record_format.specs.Items.{Item, within-tops, fine-pairs, fits, first-unfit, unfit}
-use Rattle.record_format.specs.Written.{body, bodies, first-body, encoded}
+use Rattle.tickets.specs.declared.write_set.WriteSet.{WriteSet}
+use Rattle.tickets.proofs.Sets.{pairs-rise}
+use Rattle.record_format.specs.Written.{four, pair-bytes, body, bodies, first-body, encoded}
 use Rattle.record_format.specs.Meaning.{item-of, items-of}
 use Rattle.record_format.specs.Faults.{Refusal}
 use Rattle.record_format.specs.Calls.{sized, size-answer}
 use Rattle.record_format.specs.declared.numbered_set.NumberedSet.{NumberedSet}
 use Rattle.record_format.proofs.Accepting.{is-a-write-set}
-use Rattle.record_format.proofs.Lengths.{length-body, length-encoded}
+use Rattle.record_format.proofs.Lengths.{length-pair-bytes, length-body, length-encoded}
 
 -- ---- the pairs of a write set
 
@@ -49,6 +51,26 @@ module _ (ps : Pairs) (i : ℕ) (p : ℕ × ℕ) (h : i < length ps) (e : Some p
 
 pub tops-end : (ps : Pairs) (i : ℕ) → length ps ≤ i → within-tops (drop i ps) ≡ true
 tops-end ps i h = ap within-tops (drop-all i ps h)
+
+-- ---- the bytes of a write set's pairs
+
+rising-below : (low : ℕ) (ps : Pairs) (i : ℕ) → rising low ps ≡ true → i < length ps → getD ps i (0, 0) .0 < 128
+rising-below low [] i r h = absurd (omega arith)
+rising-below low ((j, v) ∷ ps) zero r h = ltb-true j 128 (and-parts (ltb j 128) _ (and-parts (leb low j) _ r .1) .0)
+rising-below low ((j, v) ∷ ps) (suc i) r h = rising-below (suc j) ps i (and-parts (ltb j 128) _ (and-parts (leb low j) _ r .1) .1) (omega arith)
+
+pub object-below : (w : WriteSet) (i : ℕ) (p : ℕ × ℕ) → i < length (pairs w) → Some p ≡ pair-told (pairs w) i → p .0 < 128
+object-below w i p h e =
+    let same = ap (λ (q : ℕ × ℕ). q .0) (told-pair (pairs w) i p h e) in
+    omega (arith, rising-below 0 (pairs w) i (pairs-rise w) h)
+
+pub length-some-pairs : (ps : Pairs) (i : ℕ) → i ≤ length ps → length (joined pair-bytes (take i ps)) ≡ 5 * i
+length-some-pairs ps i h = length-pair-bytes (take i ps) ∙ ap (λ k. 5 * k) (length-take-le i ps h)
+
+-- the bytes of a pair, from its object and the bytes of its value one by one
+pub bytes-of-pair : (ps : Pairs) (i : ℕ) (p : ℕ × ℕ) (vs : List ℕ) → i < length ps → Some p ≡ pair-told ps i → vs ≡ four (p .1) → p .0 ∷ getD vs 0 0 ∷ getD vs 1 0 ∷ getD vs 2 0 ∷ getD vs 3 0 ∷ [] ≡ pair-bytes (getD ps i (0, 0))
+bytes-of-pair ps i p vs h e v =
+    (λ j. p .0 ∷ getD (v j) 0 0 ∷ getD (v j) 1 0 ∷ getD (v j) 2 0 ∷ getD (v j) 3 0 ∷ []) ∙ ap pair-bytes (told-pair ps i p h e)
 
 -- ---- one numbered write set
 

@@ -44,6 +44,9 @@ wrote-nothing b at = record {
 pub wrote-same : {b b′ xs ys : List ℕ} {at end : ℕ} → xs ≡ ys → Wrote b at xs b′ end → Wrote b at ys b′ end
 wrote-same {b} {b′} {xs} {ys} {at} {end} e w = subst (λ (l : List ℕ). Wrote b at l b′ end) e w
 
+pub wrote-moved : {b b1 b2 xs : List ℕ} {at m n : ℕ} → b2 ≡ b1 → n ≡ m → Wrote b at xs b1 m → Wrote b at xs b2 n
+wrote-moved p q w = record { after = p ∙ w .after; ends = q ∙ w .ends }
+
 pub then : {b b1 b2 : List ℕ} {at m r : ℕ} {xs ys : List ℕ} → at + length xs ≤ length b → Wrote b at xs b1 m → Wrote b1 m ys b2 r → Wrote b at (xs ++ ys) b2 r
 then {b} {b1} {b2} {at} {m} {r} {xs} {ys} h u v = record {
   after = v .after ∙ (λ i. written (u .after i) (u .ends i) ys) ∙ written-again b at xs h ys;

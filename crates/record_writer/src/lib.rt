@@ -1,3 +1,4 @@
 // Writing the run record into a buffer that the caller lends.
 mod bytes;
+mod parts;
 mod runs;
