@@ -19,13 +19,15 @@ use Rattle.tickets.specs.Meaning.{pairs}
 use Rattle.record_format.specs.Items.{Item, within-tops, fine-pairs, fits, first-unfit, unfit}
 use Rattle.tickets.specs.declared.write_set.WriteSet.{WriteSet}
 use Rattle.tickets.proofs.Sets.{pairs-rise}
-use Rattle.record_format.specs.Written.{four, pair-bytes, body, bodies, first-body, encoded}
+use Rattle.record_format.specs.Written.{two, four, pair-bytes, body, entry, contents, bodies, first-body, encoded}
+use Rattle.record_format.specs.Buffers.{Wrote}
 use Rattle.record_format.specs.Meaning.{item-of, items-of}
 use Rattle.record_format.specs.Faults.{Refusal}
 use Rattle.record_format.specs.Calls.{sized, size-answer}
 use Rattle.record_format.specs.declared.numbered_set.NumberedSet.{NumberedSet}
 use Rattle.record_format.proofs.Accepting.{is-a-write-set}
-use Rattle.record_format.proofs.Lengths.{length-pair-bytes, length-body, length-encoded}
+use Rattle.record_format.proofs.Lengths.{length-pair-bytes, length-body, length-contents, length-encoded}
+use Rattle.record_format.proofs.Writing.{then, wrote-same}
 
 -- ---- the pairs of a write set
 
@@ -113,6 +115,35 @@ module _ (sets : List NumberedSet) (i : ℕ) (x : NumberedSet) (h : i < length s
   pub unfit-here : false ≡ fits (i + 1) (item-of x) → first-unfit (i + 1) (drop i its) ≡ Some (i + 1)
   unfit-here f = ap (first-unfit (i + 1)) next-set ∙ cond-false _ _ _ (sym f)
 
+-- the contents of some items, and of one more
+contents-push : (at : ℕ) (xs : List Item) (x : Item) → contents at (xs ++ x ∷ []) ≡ contents at xs ++ entry (at + length (bodies xs)) x
+contents-push at [] x = let z : at ≡ at + 0 = omega arith in ap (λ k. entry k x) z
+contents-push at (y ∷ xs) x =
+    let n : at + length (body y) + length (bodies xs) ≡ at + length (bodies (y ∷ xs)) = omega (arith, length-append (body y) (bodies xs)) in
+    ap (λ l. entry at y ++ l) (contents-push (at + length (body y)) xs x ∙ ap (λ k. contents (at + length (body y)) xs ++ entry k x) n)
+
+pub length-bodies-take : (i : ℕ) (xs : List Item) → length (bodies (take i xs)) ≤ length (bodies xs)
+length-bodies-take zero xs = omega arith
+length-bodies-take (suc i) [] = omega arith
+length-bodies-take (suc i) (x ∷ xs) = omega (arith, length-append (body x) (bodies xs), length-append (body x) (bodies (take i xs)), length-bodies-take i xs)
+
+module _ (sets : List NumberedSet) (i : ℕ) (x : NumberedSet) (h : i < length sets) (at : x ≡ getD sets i x) where
+  -- there is room for the next body
+  pub room-for-body : length (bodies (take i (items-of sets))) + length (body (item-of x)) ≤ length (bodies (items-of sets))
+  room-for-body = omega (arith, length-bodies-more sets i x h at, length-bodies-take (i + 1) (items-of sets))
+
+  pub bodies-next : {b b1 b2 : List ℕ} {from m r : ℕ} → from + length (bodies (items-of sets)) ≤ length b → Wrote b from (bodies (take i (items-of sets))) b1 m → Wrote b1 m (body (item-of x)) b2 r → Wrote b from (bodies (take (i + 1) (items-of sets))) b2 r
+  bodies-next room u v =
+      let l = room-for-body in
+      wrote-same (joined-more body [] (take i (items-of sets)) (item-of x) ∙ ap bodies (sym (take-set sets i x h at))) (then (omega arith) u v)
+
+  pub contents-next : (first pairs : ℕ) (os : List ℕ) {b b1 b2 : List ℕ} {from m r : ℕ} → from + 4 * length sets ≤ length b → pairs ≡ length (item-of x .pairs) → os ≡ two (first + length (bodies (take i (items-of sets)))) → Wrote b from (contents first (take i (items-of sets))) b1 m → Wrote b1 m (x .home ∷ pairs ∷ getD os 0 0 ∷ getD os 1 0 ∷ []) b2 r → Wrote b from (contents first (take (i + 1) (items-of sets))) b2 r
+  contents-next first pairs os {b} room p o u v =
+      let its = items-of sets in
+      let l = length-contents first (take i its) ∙ ap (λ k. 4 * k) (length-take-le i its (omega (arith, length-map sets item-of))) in
+      let e : x .home ∷ pairs ∷ getD os 0 0 ∷ getD os 1 0 ∷ [] ≡ entry (first + length (bodies (take i its))) (item-of x) = (λ j. x .home ∷ p j ∷ getD (o j) 0 0 ∷ getD (o j) 1 0 ∷ []) in
+      wrote-same (sym (ap (contents first) (take-set sets i x h at) ∙ contents-push first (take i its) (item-of x))) (then (omega arith) u (wrote-same e v))
+
 module _ (sets : List NumberedSet) where
   pub too-many : 256 < length sets → Err (None, 0 ∷ []) ≡ size-answer (items-of sets)
   too-many h =
@@ -135,3 +166,7 @@ module _ (sets : List NumberedSet) where
       let full = ap (λ k. length (bodies k)) (take-all i its (omega arith)) in
       let long : needed ≡ length (encoded its) = omega (arith, length-encoded its) in
       ap Ok long ∙ sized-as h None none
+
+  -- all of them
+  pub taken-all : (i : ℕ) → length sets ≤ i → take i (items-of sets) ≡ items-of sets
+  taken-all i h = let l = length-map sets item-of in take-all i (items-of sets) (omega arith)

@@ -38,3 +38,33 @@ fn put_body(buffer: &mut [u8], at: usize, set: &NumberedSet) -> usize
     let end = put(buffer, at, &set.s.to_be_bytes());
     put_pairs(buffer, end, &set.set)
 }
+
+/// Writes the contents, an entry for each write set. Every offset fits its two bytes.
+pub(crate) fn put_contents(buffer: &mut [u8], at: usize, sets: &[NumberedSet]) -> usize
+    requires { ⌜ at + 4 * length (now sets) ≤ length (now buffer) ⌝ }
+    requires { ⌜ first-body (length (now sets)) + length (bodies (items-of (now sets))) < 65536 ⌝ }
+    ensures bytes { λ r. ⌜ Wrote (now (buffer .entry)) at (contents (first-body (length (now (sets .entry)))) (items-of (now (sets .entry)))) (now (buffer .exit)) r ⌝ }
+{
+    let mut end = at;
+    let mut offset = COUNT_BYTES + ENTRY_BYTES * sets.len();
+    for i in 0..sets.len() {
+        let set = &sets[i];
+        let pairs = set.set.len();
+        let [high, low] = (offset as u16).to_be_bytes();
+        end = put(buffer, end, &[set.home, pairs as u8, high, low]);
+        offset += S_BYTES + PAIR_BYTES * pairs;
+    }
+    end
+}
+
+/// Writes the bodies, in order and without gaps.
+pub(crate) fn put_bodies(buffer: &mut [u8], at: usize, sets: &[NumberedSet]) -> usize
+    requires { ⌜ at + length (bodies (items-of (now sets))) ≤ length (now buffer) ⌝ }
+    ensures bytes { λ r. ⌜ Wrote (now (buffer .entry)) at (bodies (items-of (now (sets .entry)))) (now (buffer .exit)) r ⌝ }
+{
+    let mut end = at;
+    for i in 0..sets.len() {
+        end = put_body(buffer, end, &sets[i]);
+    }
+    end
+}
