@@ -9,3 +9,4 @@ pub use record_format::NumberedSet;
 pub use record_format::RecordFault;
 pub use record_reader::Body;
 pub use record_reader::Reader;
+pub use record_writer::write;

@@ -40,29 +40,29 @@ under-top p = leb (p .1) (top (p .0))
 topped-some : {p q : ℕ × ℕ} → Some p ≡ topped q → (p ≡ q) × (under-top q ≡ true)
 topped-some {p} {q} e =
     elim (cases-bool (under-top q)) [
-      inl t ↦ (let f = e ∙ cond-true _ _ _ t in cc, t)
-    | inr f ↦ absurd (none≢some (sym (e ∙ cond-false _ _ _ f)))
+      | inl t ↦ (let f = e ∙ cond-true _ _ _ t in cc, t)
+      | inr f ↦ absurd (none≢some (sym (e ∙ cond-false _ _ _ f)))
     ]
 
 topped-none : (q : ℕ × ℕ) → None ≡ topped q → under-top q ≡ false
 topped-none q e =
     elim (cases-bool (under-top q)) [
-      inl t ↦ absurd (none≢some (e ∙ cond-true _ _ _ t))
-    | inr f ↦ f
+      | inl t ↦ absurd (none≢some (e ∙ cond-true _ _ _ t))
+      | inr f ↦ f
     ]
 
 built-some : {ps qs : Pairs} → Some qs ≡ built ps → qs ≡ ps
 built-some {ps} {qs} e =
     elim (cases-bool (is-write-set ps)) [
-      inl t ↦ let f = e ∙ cond-true _ _ _ t in cc
-    | inr f ↦ absurd (none≢some (sym (e ∙ cond-false _ _ _ f)))
+      | inl t ↦ let f = e ∙ cond-true _ _ _ t in cc
+      | inr f ↦ absurd (none≢some (sym (e ∙ cond-false _ _ _ f)))
     ]
 
 built-none : (ps : Pairs) → None ≡ built ps → is-write-set ps ≡ false
 built-none ps e =
     elim (cases-bool (is-write-set ps)) [
-      inl t ↦ absurd (none≢some (e ∙ cond-true _ _ _ t))
-    | inr f ↦ f
+      | inl t ↦ absurd (none≢some (e ∙ cond-true _ _ _ t))
+      | inr f ↦ f
     ]
 
 -- ---- what holds of pairs holds of a front of them
@@ -98,8 +98,8 @@ front-is-a-write-set k ps some h w =
 no-front-no-set : (k : ℕ) (ps : Pairs) → 0 < k → k ≤ length ps → is-write-set (take k ps) ≡ false → is-write-set ps ≡ false
 no-front-no-set k ps some h f =
     elim (cases-bool (is-write-set ps)) [
-      inl t ↦ absurd (both-ways _ f (front-is-a-write-set k ps some h t))
-    | inr g ↦ g
+      | inl t ↦ absurd (both-ways _ f (front-is-a-write-set k ps some h t))
+      | inr g ↦ g
     ]
 
 -- ---- gathering

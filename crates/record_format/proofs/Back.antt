@@ -46,8 +46,8 @@ items-back (it ∷ its) n at x h hn ha =
     let rs = bodies (it ∷ its) in
     let e = item-back n at it (contents next its ++ x) (bodies its) t (omega arith) in
     let s : stands n at es rs ≡ true =
-        and-from _ _ (eq-eqb _ _ (two-back at (omega arith)))
-        (and-from _ _ (le-leb _ _ (omega (arith, length-append (body it) (bodies its)))) (ap (fits n) e ∙ f .first)) in
+    and-from _ _ (eq-eqb _ _ (two-back at (omega arith)))
+    (and-from _ _ (le-leb _ _ (omega (arith, length-append (body it) (bodies its)))) (ap (fits n) e ∙ f .first)) in
     let size : 2 + 5 * length (it .pairs) ≡ length (body it) = omega arith in
     let d : drop (2 + 5 * length (it .pairs)) rs ≡ bodies its = drop-at (body it) (bodies its) _ long in
     let ih = items-back its (n + 1) next x (f .others) (omega arith) (omega arith) in

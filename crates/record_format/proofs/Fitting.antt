@@ -53,8 +53,8 @@ pub record FirstFits (n : ℕ) (it : Item) (its : List Item) : Type 0 where
 pub first-fits : (n : ℕ) (it : Item) (its : List Item) → first-unfit n (it ∷ its) ≡ None → FirstFits n it its
 first-fits n it its h =
     elim (cases-bool (fits n it)) [
-      inl t ↦ record { first = t; others = sym (cond-true _ _ _ t) ∙ h }
-    | inr f ↦ absurd (none-is-not-some (sym (cond-false _ _ _ f) ∙ h))
+      | inl t ↦ record { first = t; others = sym (cond-true _ _ _ t) ∙ h }
+      | inr f ↦ absurd (none-is-not-some (sym (cond-false _ _ _ f) ∙ h))
     ]
 
 pub all-fit : (n : ℕ) (it : Item) (its : List Item) → fits n it ≡ true → first-unfit (n + 1) its ≡ None → first-unfit n (it ∷ its) ≡ None
@@ -68,8 +68,8 @@ pub record RunParts (its : List Item) : Type 0 where
 pub run-parts : (its : List Item) → Run its → RunParts its
 run-parts its h =
     elim (cases-bool (leb (length its) 256)) [
-      inl t ↦ record { few = leb-true _ _ t; all = sym (cond-true _ _ _ t) ∙ h }
-    | inr f ↦ absurd (none-is-not-some (sym (cond-false _ _ _ f) ∙ h))
+      | inl t ↦ record { few = leb-true _ _ t; all = sym (cond-true _ _ _ t) ∙ h }
+      | inr f ↦ absurd (none-is-not-some (sym (cond-false _ _ _ f) ∙ h))
     ]
 
 pub run-from : (its : List Item) → RunParts its → Run its

@@ -104,12 +104,12 @@ items-forth zero n at es [] (it ∷ its) he hr long e = absurd (let z : _≡_ {A
 items-forth zero n at es (r ∷ rs) its he hr long e = absurd (let z : _≡_ {A = ℕ} 0 1 = cc in omega arith)
 items-forth (suc k) n at es rs its he hr long e =
     elim (cases-bool (stands n at es rs)) [
-      inl t ↦
-        let f = others-read _ _ its (sym (cond-true _ _ _ t) ∙ e) in
-        let l = length-drop 4 es in
-        let w = items-forth k (n + 1) (at + size-in es) (drop 4 es) (drop (size-in es) rs) (f .0) (all-drop (λ b. b < 256) 4 es he) (all-drop (λ b. b < 256) (size-in es) rs hr) (omega arith) (f .1 .0) in
-        subst (Same (suc k) n at es rs) (f .1 .1) (first-forth k n at es rs (f .0) he hr long (stands-parts n at es rs t) w)
-    | inr t ↦ let u = sym (cond-false (stands n at es rs) _ _ t) ∙ e in absurd (let z : _≡_ {A = ℕ} 0 1 = cc u in omega arith)
+      | inl t ↦
+          let f = others-read _ _ its (sym (cond-true _ _ _ t) ∙ e) in
+          let l = length-drop 4 es in
+          let w = items-forth k (n + 1) (at + size-in es) (drop 4 es) (drop (size-in es) rs) (f .0) (all-drop (λ b. b < 256) 4 es he) (all-drop (λ b. b < 256) (size-in es) rs hr) (omega arith) (f .1 .0) in
+          subst (Same (suc k) n at es rs) (f .1 .1) (first-forth k n at es rs (f .0) he hr long (stands-parts n at es rs t) w)
+      | inr t ↦ let u = sym (cond-false (stands n at es rs) _ _ t) ∙ e in absurd (let z : _≡_ {A = ℕ} 0 1 = cc u in omega arith)
     ]
 
 -- the head of a record that reads
@@ -143,15 +143,15 @@ pub record Read (bs : List ℕ) (its : List Item) : Type 0 where
 pub read-parts : (bs : List ℕ) (its : List Item) → Bytes bs → decoded bs ≡ Ok its → Read bs its
 read-parts bs its h e =
     elim (cases-bool (headless bs)) [
-      inl t ↦ let u = sym (cond-true (headless bs) _ _ t) ∙ e in absurd (let z : _≡_ {A = ℕ} 0 1 = cc u in omega arith)
-    | inr t ↦
-        let d = head bs t in
-        let long = d .long in
-        let l = length-drop 2 bs in
-        record {
-          head = d;
-          same = items-forth (two-of bs) 1 (first-body (two-of bs)) (drop 2 bs) (drop (first-body (two-of bs)) bs) its (all-drop (λ b. b < 256) 2 bs h) (all-drop (λ b. b < 256) (first-body (two-of bs)) bs h) (omega arith) (sym (cond-false _ _ _ t) ∙ e);
-        }
+      | inl t ↦ let u = sym (cond-true (headless bs) _ _ t) ∙ e in absurd (let z : _≡_ {A = ℕ} 0 1 = cc u in omega arith)
+      | inr t ↦
+          let d = head bs t in
+          let long = d .long in
+          let l = length-drop 2 bs in
+          record {
+            head = d;
+            same = items-forth (two-of bs) 1 (first-body (two-of bs)) (drop 2 bs) (drop (first-body (two-of bs)) bs) its (all-drop (λ b. b < 256) 2 bs h) (all-drop (λ b. b < 256) (first-body (two-of bs)) bs h) (omega arith) (sym (cond-false _ _ _ t) ∙ e);
+          }
     ]
 
 pub writes-back : (bs : List ℕ) (its : List Item) → Bytes bs → decoded bs ≡ Ok its → encoded its ≡ bs

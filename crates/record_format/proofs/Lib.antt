@@ -12,3 +12,4 @@ pub mod Verdicts
 pub mod Whole
 pub mod Writing
 pub mod Sets
+pub mod Records

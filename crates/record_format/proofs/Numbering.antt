@@ -44,14 +44,13 @@ first-read zero n at es [] it its e = absurd (let z : _≡_ {A = ℕ} 0 1 = cc i
 first-read zero n at es (r ∷ rs) it its e = absurd (let z : _≡_ {A = ℕ} 0 1 = cc in omega arith)
 first-read (suc k) n at es rs it its e =
     elim (cases-bool (stands n at es rs)) [
-      inl t ↦ let f = others-read (item-in es rs) _ (it ∷ its) (sym (cond-true _ _ _ t) ∙ e) in record { some = omega arith; stands = t; is = let g = f .1 .1 in cc }
-    | inr t ↦ absurd (let u = sym (cond-false (stands n at es rs) _ _ t) ∙ e in let z : _≡_ {A = ℕ} 0 1 = cc u in omega arith)
+      | inl t ↦ let f = others-read (item-in es rs) _ (it ∷ its) (sym (cond-true _ _ _ t) ∙ e) in record { some = omega arith; stands = t; is = let g = f .1 .1 in cc }
+      | inr t ↦ absurd (let u = sym (cond-false (stands n at es rs) _ _ t) ∙ e in let z : _≡_ {A = ℕ} 0 1 = cc u in omega arith)
     ]
 
 stood-there : (bs : List ℕ) (i at : ℕ) (it : Item) → Stood bs i at it → (item-at bs (i + 1) at ≡ Some it) × (two-of (drop (first-body i + 2) bs) ≡ at)
 stood-there bs i at it s =
-    let h = here i bs in
-    (
+    let h = here i bs in (
       (λ j. cond (stands (i + 1) at (h j) (drop at bs)) (Some (item-in (h j) (drop at bs))) None) ∙ cond-true _ _ _ (s .stood) ∙ ap Some (s .is),
       ap two-of (sym (drop-drop 2 (first-body i) bs)) ∙ stands-parts (i + 1) at (drop (first-body i) bs) (drop at bs) (s .stood) .offset,
     )
@@ -111,23 +110,23 @@ length-read zero n at es [] its e = ap length (let f : its ≡ [] = cc in f)
 length-read zero n at es (r ∷ rs) its e = absurd (let z : _≡_ {A = ℕ} 0 1 = cc in omega arith)
 length-read (suc k) n at es rs its e =
     elim (cases-bool (stands n at es rs)) [
-      inl t ↦
-        let f = others-read (item-in es rs) _ its (sym (cond-true _ _ _ t) ∙ e) in
-        ap length (sym (f .1 .1)) ∙ ap suc (length-read k (n + 1) (at + size-in es) (drop 4 es) (drop (size-in es) rs) (f .0) (f .1 .0))
-    | inr t ↦ absurd (let u = sym (cond-false (stands n at es rs) _ _ t) ∙ e in let z : _≡_ {A = ℕ} 0 1 = cc u in omega arith)
+      | inl t ↦
+          let f = others-read (item-in es rs) _ its (sym (cond-true _ _ _ t) ∙ e) in
+          ap length (sym (f .1 .1)) ∙ ap suc (length-read k (n + 1) (at + size-in es) (drop 4 es) (drop (size-in es) rs) (f .0) (f .1 .0))
+      | inr t ↦ absurd (let u = sym (cond-false (stands n at es rs) _ _ t) ∙ e in let z : _≡_ {A = ℕ} 0 1 = cc u in omega arith)
     ]
 
 pub whole : (bs : List ℕ) (count : ℕ) → Ok count ≡ count-of (decoded bs) → Whole bs count
 whole bs count e =
     let c = counted-items (decoded bs) count e in
     elim (cases-bool (headless bs)) [
-      inl t ↦ absurd (let u = sym (cond-true (headless bs) _ _ t) ∙ c .0 in let z : _≡_ {A = ℕ} 0 1 = cc u in omega arith)
-    | inr t ↦
-        let h = head bs t in
-        let n = length-read (two-of bs) 1 (first-body (two-of bs)) (drop 2 bs) (drop (first-body (two-of bs)) bs) (items-in bs) (sym (cond-false _ _ _ t) ∙ c .0) in
-        let same : count ≡ two-of bs = sym (c .1) ∙ n in
-        let long : first-body count ≤ length bs = omega (arith, h .long) in
-        record { reads = c .0; count-is = c .1; all = sym (all-left bs count same long (omega (arith, h .few))) ∙ c .0; long = long }
+      | inl t ↦ absurd (let u = sym (cond-true (headless bs) _ _ t) ∙ c .0 in let z : _≡_ {A = ℕ} 0 1 = cc u in omega arith)
+      | inr t ↦
+          let h = head bs t in
+          let n = length-read (two-of bs) 1 (first-body (two-of bs)) (drop 2 bs) (drop (first-body (two-of bs)) bs) (items-in bs) (sym (cond-false _ _ _ t) ∙ c .0) in
+          let same : count ≡ two-of bs = sym (c .1) ∙ n in
+          let long : first-body count ≤ length bs = omega (arith, h .long) in
+          record { reads = c .0; count-is = c .1; all = sym (all-left bs count same long (omega (arith, h .few))) ∙ c .0; long = long }
     ]
 
 pub found : (bs : List ℕ) (count n : ℕ) → Ok count ≡ count-of (decoded bs) → 0 < n → n ≤ count → Found bs (first-body (length (items-in bs))) (items-in bs) n n
@@ -194,8 +193,7 @@ placed-at bs count n e some few =
     let t = stands-there bs n at (f .it) (sym (f .there)) in
     let long = stands-parts n at (entry-of n bs) (drop at bs) (t .0) .long in
     let size : size-in (entry-of n bs) ≡ length (body (f .it)) = ap (λ k. 2 + 5 * k) (sym (length-pairs-in (getD (entry-of n bs) 1 0) (drop 2 (drop at bs)))) ∙ sym (length-body (item-in (entry-of n bs) (drop at bs))) ∙ ap (λ (x : Item). length (body x)) (t .1) in
-    let within = f .within in
-    (
+    let within = f .within in (
       (body (f .it), at),
       (
         f .body-is,
@@ -247,6 +245,7 @@ none-placed bs n e =
     none : (o : Option (List ℕ × ℕ)) → None ≡ mapped span o → o ≡ None
     none None f = refl
     none (Some p) f = absurd (let z : _≡_ {A = ℕ} 0 1 = cc in omega arith)
+
     alike : {A B : Type 0} (xs : List A) (ys : List B) (n : ℕ) → length xs ≡ length ys → numbered ys n ≡ None → numbered xs n ≡ None
     alike xs ys zero l f = refl
     alike [] ys (suc n) l f = refl

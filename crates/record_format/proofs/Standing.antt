@@ -66,9 +66,9 @@ module _ (bs : List ℕ) (n at : ℕ) {home pairs size offset : ℕ} (e : Entere
   no-item-by-pairs h =
       let a = h ∙ taken-is in
       elim (cases-bool (fine-pairs ps)) [
-        inl t ↦ absurd (let f = a ∙ cond-true _ _ _ t in let z : _≡_ {A = ℕ} 0 1 = cc in omega arith)
-      | inr f ↦
-          sym (item-told ∙ cond-false _ _ _ (and-right (eqb offset at) _ (and-right (leb size (length bs - at)) _ (and-right (leb home 7) _ (and-right (ltb (two-of (drop at bs)) n) _ f)))))
+        | inl t ↦ absurd (let f = a ∙ cond-true _ _ _ t in let z : _≡_ {A = ℕ} 0 1 = cc in omega arith)
+        | inr f ↦
+            sym (item-told ∙ cond-false _ _ _ (and-right (eqb offset at) _ (and-right (leb size (length bs - at)) _ (and-right (leb home 7) _ (and-right (ltb (two-of (drop at bs)) n) _ f)))))
       ]
 
   pub item-found : (s : ℕ) (qs : Pairs) → s ≡ two-of (drop at bs) → offset ≡ at → size ≤ length bs - at → home ≤ 7 → s < n → Some qs ≡ taken → Some (record { home = home; s = s; pairs = qs }) ≡ item-at bs n at
@@ -76,9 +76,9 @@ module _ (bs : List ℕ) (n at : ℕ) {home pairs size offset : ℕ} (e : Entere
       let a = pairs ∙ taken-is in
       let l : two-of (drop at bs) < n = omega arith in
       elim (cases-bool (fine-pairs ps)) [
-        inl f ↦
-          let q : qs ≡ ps = let g = a ∙ cond-true _ _ _ f in cc in
-          sym (item-told ∙ cond-true _ _ _ (and-from _ _ (eq-eqb _ _ same) (and-from _ _ (le-leb _ _ room) (and-from _ _ (le-leb _ _ h) (and-from _ _ (lt-ltb _ _ l) f))))
-          ∙ (λ i. Some (record { home = home; s = sym t i; pairs = sym q i })))
-      | inr f ↦ absurd (let g = a ∙ cond-false _ _ _ f in let z : _≡_ {A = ℕ} 0 1 = cc in omega arith)
+        | inl f ↦
+            let q : qs ≡ ps = let g = a ∙ cond-true _ _ _ f in cc in
+            sym (item-told ∙ cond-true _ _ _ (and-from _ _ (eq-eqb _ _ same) (and-from _ _ (le-leb _ _ room) (and-from _ _ (le-leb _ _ h) (and-from _ _ (lt-ltb _ _ l) f))))
+            ∙ (λ i. Some (record { home = home; s = sym t i; pairs = sym q i })))
+        | inr f ↦ absurd (let g = a ∙ cond-false _ _ _ f in let z : _≡_ {A = ℕ} 0 1 = cc in omega arith)
       ]

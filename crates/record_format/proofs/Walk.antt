@@ -36,8 +36,8 @@ pub record Stood (bs : List ℕ) (i at : ℕ) (it : Item) : Type 0 where
 pub stands-there : (bs : List ℕ) (n at : ℕ) (it : Item) → Some it ≡ item-at bs n at → (stands n at (entry-of n bs) (drop at bs) ≡ true) × (item-in (entry-of n bs) (drop at bs) ≡ it)
 stands-there bs n at it e =
     elim (cases-bool (stands n at (entry-of n bs) (drop at bs))) [
-      inl t ↦ (t, let g = e ∙ cond-true _ _ _ t in cc)
-    | inr t ↦ absurd (let g = e ∙ cond-false _ _ _ t in let z : _≡_ {A = ℕ} 0 1 = cc in omega arith)
+      | inl t ↦ (t, let g = e ∙ cond-true _ _ _ t in cc)
+      | inr t ↦ absurd (let g = e ∙ cond-false _ _ _ t in let z : _≡_ {A = ℕ} 0 1 = cc in omega arith)
     ]
 
 pub stood : (bs : List ℕ) (i at : ℕ) (it : Item) → Some it ≡ item-at bs (i + 1) at → Stood bs i at it
@@ -51,8 +51,8 @@ not-stood bs i at e =
     let h = here i bs in
     let f = e ∙ (λ j. cond (stands (i + 1) at (h j) (drop at bs)) (Some (item-in (h j) (drop at bs))) None) in
     elim (cases-bool (stands (i + 1) at (drop (first-body i) bs) (drop at bs))) [
-      inl t ↦ absurd (let g = f ∙ cond-true _ _ _ t in let z : _≡_ {A = ℕ} 0 1 = cc in omega arith)
-    | inr t ↦ t
+      | inl t ↦ absurd (let g = f ∙ cond-true _ _ _ t in let z : _≡_ {A = ℕ} 0 1 = cc in omega arith)
+      | inr t ↦ t
     ]
 
 -- ---- one item further

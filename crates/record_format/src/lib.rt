@@ -16,10 +16,12 @@ pub const LAST_HOME: u8 = 7;
 
 /// The bytes of the count, and those of an item's entry in the contents.
 pub const COUNT_BYTES: usize = 2;
+
 pub const ENTRY_BYTES: usize = 4;
 
 /// The bytes of a body's s, and those of each of its pairs.
 pub const S_BYTES: usize = 2;
+
 pub const PAIR_BYTES: usize = 5;
 
 /// The bytes of the longest record: 256 items of eight pairs.

@@ -12,8 +12,8 @@ use crate::bytes::pair_at;
 use crate::bytes::two_at;
 use crate::entry::Entry;
 use crate::entry::entry_of;
-use record_format::NumberedSet;
 use record_format::LAST_HOME;
+use record_format::NumberedSet;
 use record_format::PAIR_BYTES;
 use record_format::S_BYTES;
 use tickets::WriteSet;
@@ -40,7 +40,12 @@ pub(crate) fn item_at(bytes: &[u8], n: usize, at: usize) -> Option<NumberedSet>
     requires { ⌜ at ≤ length (now bytes) ⌝ }
     ensures answer { λ r. ⌜ mapped item-of r ≡ item-at (now (bytes .entry)) n at ⌝ }
 {
-    let Entry { home, pairs, size, offset } = entry_of(bytes, n);
+    let Entry {
+        home,
+        pairs,
+        size,
+        offset,
+    } = entry_of(bytes, n);
     let room = bytes.len() - at;
     if offset != at || size > room || home > LAST_HOME {
         return None;

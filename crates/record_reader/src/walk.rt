@@ -3,12 +3,12 @@ ghost use mathlib.Core.Path.{_≡_};
 ghost use Rattle.record_format.specs.Reading.{decoded, count-of};
 ghost use Rattle.record_format.specs.Calls.{verdict-of};
 use crate::bytes::two_at;
-use record_format::RecordFault;
 use crate::items::item_at;
 use record_format::COUNT_BYTES;
 use record_format::ENTRY_BYTES;
 use record_format::MOST_ITEMS;
 use record_format::PAIR_BYTES;
+use record_format::RecordFault;
 use record_format::S_BYTES;
 
 /// How many items the record has, or why it does not read.

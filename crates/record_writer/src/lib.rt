@@ -2,3 +2,6 @@
 mod bytes;
 mod parts;
 mod runs;
+pub mod writes;
+
+pub use writes::write;

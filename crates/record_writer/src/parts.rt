@@ -4,7 +4,8 @@ ghost use Prim.Native.Nat.{_+_, _*_, _<_, _≤_};
 ghost use lib.ListN.{length};
 ghost use Rattle.std.specs.Joined.{joined};
 ghost use Rattle.tickets.specs.Meaning.{pairs};
-ghost use Rattle.record_format.specs.Written.{pair-bytes, body, contents, bodies, first-body};
+ghost use Rattle.record_format.specs.Items.{Run};
+ghost use Rattle.record_format.specs.Written.{pair-bytes, body, contents, bodies, first-body, encoded};
 ghost use Rattle.record_format.specs.Meaning.{item-of, items-of};
 ghost use Rattle.record_format.specs.Buffers.{Wrote};
 use crate::bytes::put;
@@ -67,4 +68,16 @@ pub(crate) fn put_bodies(buffer: &mut [u8], at: usize, sets: &[NumberedSet]) -> 
         end = put_body(buffer, end, &sets[i]);
     }
     end
+}
+
+/// Writes the record of a run.
+pub(crate) fn put_record(buffer: &mut [u8], sets: &[NumberedSet]) -> usize
+    requires { ⌜ Run (items-of (now sets)) ⌝ }
+    requires { ⌜ length (encoded (items-of (now sets))) ≤ length (now buffer) ⌝ }
+    ensures bytes { λ r. ⌜ Wrote (now (buffer .entry)) 0 (encoded (items-of (now (sets .entry)))) (now (buffer .exit)) r ⌝ }
+{
+    let count = sets.len() as u16;
+    let head = put(buffer, 0, &count.to_be_bytes());
+    let end = put_contents(buffer, head, sets);
+    put_bodies(buffer, end, sets)
 }

@@ -6,13 +6,13 @@ ghost use Rattle.record_format.specs.Faults.{listed};
 ghost use Rattle.record_format.specs.Meaning.{item-of};
 ghost use Rattle.record_reader.specs.Readers.{read-from, part-of, span-of, PartOf};
 use crate::entry::entry_of;
-use record_format::RecordFault;
 use crate::items::item_at;
-use record_format::NumberedSet;
 use crate::reader::Body;
 use crate::reader::Reader;
 use crate::reader::Span;
 use crate::walk::walk;
+use record_format::NumberedSet;
+use record_format::RecordFault;
 
 impl<'a> Reader<'a> {
     /// Reads a record whole, whatever it holds.
@@ -41,7 +41,10 @@ impl<'a> Reader<'a> {
             return None;
         }
         let entry = entry_of(self.bytes, n);
-        Some(Span { at: entry.offset, len: entry.size })
+        Some(Span {
+            at: entry.offset,
+            len: entry.size,
+        })
     }
 
     /// The item of a number, counted from 1; none where there is no such item.
@@ -58,6 +61,9 @@ impl<'a> Reader<'a> {
         ensures part { λ r. ⌜ PartOf (read-from (now (self .entry))) r ⌝ }
     {
         let Span { at, len } = self.span(n)?;
-        Some(Body { bytes: &self.bytes[at..at + len], at })
+        Some(Body {
+            bytes: &self.bytes[at..at + len],
+            at,
+        })
     }
 }

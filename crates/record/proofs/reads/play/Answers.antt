@@ -19,10 +19,10 @@ loop-i-again c =
     let i = c .loop-i .i in
     let same = c .new-reader .ensures .answer in
     elim (c .match-item .came) [
-      in-Some w ↦
-        ap (λ (b : Board). play-all (drop (i + 1) (items-in bs)) b) (ap values (w .board-is) ∙ w .play .ensures .after)
-        ∙ play-next (items-in bs) i (item-of (w .in-Some .item)) (values (c .loop-i .board)) _ (same-record i same (w .in-Some .ensures tt .answer)) (c .loop-i .inv)
-    | in-rest w ↦ absurd (never-none i same (w .in-rest .ensures tt .answer) (items-counted (decoded bs) _ (c .in-Continue-count .ensures tt .answer ∙ ap check-answer same)) (c .loop-i-test .taken))
+      | in-Some w ↦
+          ap (λ (b : Board). play-all (drop (i + 1) (items-in bs)) b) (ap values (w .board-is) ∙ w .play .ensures .after)
+          ∙ play-next (items-in bs) i (item-of (w .in-Some .item)) (values (c .loop-i .board)) _ (same-record i same (w .in-Some .ensures tt .answer)) (c .loop-i .inv)
+      | in-rest w ↦ absurd (never-none i same (w .in-rest .ensures tt .answer) (items-counted (decoded bs) _ (c .in-Continue-count .ensures tt .answer ∙ ap check-answer same)) (c .loop-i-test .taken))
     ]
 
 pub returns : need.returns

@@ -22,6 +22,6 @@ returns-in-Break-set c = record {
 pub returns : need.returns
 returns c = record {
   answer =
-    item-found (c .args .bytes .now) (c .args .n) (c .args .at) (c .entry-of-home .ensures .answer) (c .two-at-s .result) (pairs (c .in-Continue-set .set))
-    (c .two-at-s .ensures .answer) (c .if-offset-at .left) (c .if-size-room .left) (c .if-home-gt-LAST-HOME .left) (omega (arith, c .from .ensures)) (c .in-Continue-set .ensures tt .answer);
+      item-found (c .args .bytes .now) (c .args .n) (c .args .at) (c .entry-of-home .ensures .answer) (c .two-at-s .result) (pairs (c .in-Continue-set .set))
+      (c .two-at-s .ensures .answer) (c .if-offset-at .left) (c .if-size-room .left) (c .if-home-gt-LAST-HOME .left) (omega (arith, c .from .ensures)) (c .in-Continue-set .ensures tt .answer);
 }

@@ -21,8 +21,7 @@ loop-i-again c =
     let it = item-of (c .in-Some .item) in
     let s = stood bs i at it (c .in-Some .ensures tt .answer) in
     let size = c .len .ensures .answer in
-    let more = rest-more bs count i at it (c .loop-i-test .taken) s in
-    (
+    let more = rest-more bs count i at it (c .loop-i-test .taken) s in (
       omega (arith, within-more bs i at it (c .loop-i .inv .0) s),
       ap (λ k. tally (i + 1) (rest bs count (i + 1) (at + (2 + 5 * k)))) size ∙ sym (ap (tally i) more ∙ tally-more i it _) ∙ c .loop-i .inv .1,
     )

@@ -31,10 +31,9 @@ loop-i-again c =
     let x = c .index-sets-i .result in
     let more = length-bodies-more sets (c .loop-i .i) x (c .loop-i-test .taken) (c .index-sets-i .is) in
     let size = length-body (item-of x) in
-    let pairs = c .len-pairs .ensures .answer in
-    (
+    let pairs = c .len-pairs .ensures .answer in (
       contents-next sets (c .loop-i .i) x (c .loop-i-test .taken) (c .index-sets-i .is) (first-body (length sets)) (c .len-pairs .result) (c .to-be-bytes .result)
-      (c .pre .0) pairs (c .to-be-bytes .ensures ∙ ap two (c .loop-i .inv .1)) (c .loop-i .inv .0) (c .put-end .ensures .bytes),
+          (c .pre .0) pairs (c .to-be-bytes .ensures ∙ ap two (c .loop-i .inv .1)) (c .loop-i .inv .0) (c .put-end .ensures .bytes),
       omega (arith, c .loop-i .inv .1),
     )
 

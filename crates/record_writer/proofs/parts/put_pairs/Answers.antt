@@ -31,10 +31,10 @@ loop-i-again c =
     let h : i < length ps = omega (arith, c .len-i-end .ensures .answer) in
     let long = length-some-pairs ps i (omega arith) in
     elim (c .match-pair .came) [
-      in-Some w ↦
-        let bytes = bytes-of-pair ps i (pair-of (w .in-Some .pair)) (w .to-be-bytes .result) h (w .in-Some .ensures tt .answer) (w .to-be-bytes .ensures) in
-        wrote-moved (w .buffer-is) (w .end-is) (wrote-more pair-bytes ps i (0, 0) h (omega (arith, c .pre)) (c .loop-i .inv) (wrote-same bytes (w .put-end .ensures .bytes)))
-    | in-rest w ↦ absurd (always-told ps i h (w .in-rest .ensures tt .answer))
+      | in-Some w ↦
+          let bytes = bytes-of-pair ps i (pair-of (w .in-Some .pair)) (w .to-be-bytes .result) h (w .in-Some .ensures tt .answer) (w .to-be-bytes .ensures) in
+          wrote-moved (w .buffer-is) (w .end-is) (wrote-more pair-bytes ps i (0, 0) h (omega (arith, c .pre)) (c .loop-i .inv) (wrote-same bytes (w .put-end .ensures .bytes)))
+      | in-rest w ↦ absurd (always-told ps i h (w .in-rest .ensures tt .answer))
     ]
 
 pub returns : need.returns

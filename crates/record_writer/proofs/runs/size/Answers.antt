@@ -21,8 +21,7 @@ loop-i-again c =
     let len = c .len .ensures .answer in
     let few = c .len .ensures .bounds .1 in
     let long = length-body (item-of x) in
-    let more = length-bodies-more sets (c .loop-i .i) x (c .loop-i-test .taken) (c .index-sets-i .is) in
-    (
+    let more = length-bodies-more sets (c .loop-i .i) x (c .loop-i-test .taken) (c .index-sets-i .is) in (
       unfit-next sets (c .loop-i .i) x (c .loop-i-test .taken) (c .index-sets-i .is) (c .if-not-may-stand .ensures tt .answer) ∙ c .loop-i .inv .0,
       omega (arith, c .loop-i .inv .1),
       omega (arith, c .loop-i .inv .2),

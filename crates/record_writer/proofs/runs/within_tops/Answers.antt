@@ -16,10 +16,10 @@ pub loop-i-again : need.loop-i-again
 loop-i-again c =
     let ps = pairs (c .args .set .now) in
     elim (c .match-pair .came) [
-      in-Some·else-pair-top w ↦
-        tops-next ps (c .loop-i .i) (pair-of (w .in-Some .pair)) (omega (arith, c .len-i-end .ensures .answer)) (w .in-Some .ensures tt .answer) (w .top .result) (w .top .ensures .answer) (w .if-pair-top .left)
-        ∙ c .loop-i .inv
-    | in-rest w ↦ absurd (always-told ps (c .loop-i .i) (omega (arith, c .len-i-end .ensures .answer)) (w .in-rest .ensures tt .answer))
+      | in-Some·else-pair-top w ↦
+          tops-next ps (c .loop-i .i) (pair-of (w .in-Some .pair)) (omega (arith, c .len-i-end .ensures .answer)) (w .in-Some .ensures tt .answer) (w .top .result) (w .top .ensures .answer) (w .if-pair-top .left)
+          ∙ c .loop-i .inv
+      | in-rest w ↦ absurd (always-told ps (c .loop-i .i) (omega (arith, c .len-i-end .ensures .answer)) (w .in-rest .ensures tt .answer))
     ]
 
 pub returns : need.returns
