@@ -6,7 +6,7 @@ ghost use Rattle.tickets.specs.Meaning.{values};
 ghost use Rattle.record_format.specs.Items.{play-all};
 ghost use Rattle.record_format.specs.Written.{encoded};
 ghost use Rattle.record_format.specs.Reading.{decoded, items-in};
-ghost use Rattle.record_format.specs.Calls.{check-answer, Reads};
+ghost use Rattle.record_format.specs.Calls.{check-answer, MadeOf, SetsOf};
 ghost use Rattle.record_format.specs.Faults.{listed};
 ghost use Rattle.record_format.specs.Meaning.{items-of};
 use record_format::FromAllocError;
@@ -40,7 +40,7 @@ pub fn play(bytes: &[u8], board: &mut Board) -> Result<usize, RecordFault>
 
 /// Reads a record into numbered write sets of the caller's own. Written again, they give the same bytes.
 pub fn read(heap: Global, bytes: &[u8]) -> Result<Vec<NumberedSet>, RecordFault>
-    ensures answer { λ r. ⌜ Reads (decoded (now (bytes .entry))) r ⌝ }
+    ensures answer { λ r. ⌜ MadeOf SetsOf (decoded (now (bytes .entry))) r ⌝ }
     ensures writes_back { λ r. ⌜ made r (λ sets. encoded (items-of (vec-items sets)) ≡ now (bytes .entry)) ⌝ }
 {
     let reader = Reader::new(bytes);

@@ -11,12 +11,7 @@ use Rattle.record_format.specs.Written.{encoded}
 use Rattle.record_format.specs.Reading.{decoded, count-of, items-read, items-in}
 use Rattle.record_format.specs.Laws.{Bytes}
 use Rattle.record_format.proofs.Forth.{writes-back}
-use Rattle.std.specs.Of.Vec.{vec-items}
-use Rattle.std.specs.declared.vec.Vec.{Vec}
-use Rattle.std.specs.declared.alloc.Global.{Global}
-use Rattle.record_format.specs.Calls.{or-malformed, verdict-of, Reads}
-use Rattle.record_format.specs.Meaning.{items-of}
-use Rattle.record_format.specs.declared.numbered_set.NumberedSet.{NumberedSet}
+use Rattle.record_format.specs.Calls.{or-malformed, verdict-of, MadeOf}
 use Rattle.record_format.specs.Faults.{listed}
 use Rattle.record_format.specs.declared.fault.RecordFault.{RecordFault}
 use Rattle.record_format.specs.declared.fault.RecordFault.the-variants.{Malformed}
@@ -42,9 +37,10 @@ pub items-counted : (r : Result (List Item) ℕ) (n : ℕ) → Ok n ≡ or-malfo
 items-counted (Ok its) n e = cc
 items-counted (Err item) n e = absurd (let z : _≡_ {A = ℕ} 0 1 = cc in omega arith)
 
-pub reads : (r : Result (List Item) ℕ) (n : ℕ) (v : Vec NumberedSet Global) → Ok n ≡ or-malformed (count-of r) → items-of (vec-items v) ≡ items-read r → Reads r (Ok v)
-reads (Ok its) n v e h = h
-reads (Err item) n v e h = absurd (let z : _≡_ {A = ℕ} 0 1 = cc in omega arith)
+-- what is made of the items
+pub made-of : {A : Type 0} (Holds : List Item → A → Type 0) (r : Result (List Item) ℕ) (n : ℕ) (a : A) → Ok n ≡ or-malformed (count-of r) → Holds (items-read r) a → MadeOf Holds r (Ok a)
+made-of Holds (Ok its) n a e h = h
+made-of Holds (Err item) n a e h = absurd (let z : _≡_ {A = ℕ} 0 1 = cc in omega arith)
 
 read-items : (r : Result (List Item) ℕ) (n : ℕ) → Ok n ≡ or-malformed (count-of r) → r ≡ Ok (items-read r)
 read-items (Ok its) n e = refl

@@ -35,12 +35,16 @@ abbrev pub verdict-of : Result ℕ ℕ → Result ℕ RecordFault
 verdict-of (Ok n) = Ok n
 verdict-of (Err item) = Err (Malformed item)
 
--- the write sets of a record that reads, unless there is no memory for them
-abbrev pub Reads : Result (List Item) ℕ → Result (Vec NumberedSet Global) RecordFault → Type 0
-Reads (Ok its) (Ok sets) = items-of (vec-items sets) ≡ its
-Reads (Ok its) (Err e) = refusal-of e ≡ (None, [])
-Reads (Err item) (Ok sets) = ⊥
-Reads (Err item) (Err e) = refusal-of e ≡ (Some 8, item ∷ [])
+-- what is made of the items of a record that reads, unless there is no memory for it; a malformed one is refused first
+abbrev pub MadeOf : {A : Type 0} → (List Item → A → Type 0) → Result (List Item) ℕ → Result A RecordFault → Type 0
+MadeOf Holds (Ok its) (Ok a) = Holds its a
+MadeOf Holds (Ok its) (Err e) = refusal-of e ≡ (None, [])
+MadeOf Holds (Err item) (Ok a) = ⊥
+MadeOf Holds (Err item) (Err e) = refusal-of e ≡ (Some 8, item ∷ [])
+
+-- the write sets of a record, as the caller's own
+abbrev pub SetsOf : List Item → Vec NumberedSet Global → Type 0
+SetsOf its sets = items-of (vec-items sets) ≡ its
 
 -- how long the record of a list is; a list that is no run has none, and the item that may not stand is named
 abbrev pub sized : Option ℕ → ℕ → Result ℕ Refusal

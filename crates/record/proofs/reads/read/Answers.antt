@@ -6,9 +6,9 @@ use Rattle.std.specs.Of.Vec.{vec-items, vec-len, vec-cap}
 use Rattle.std.proofs.shelf.Lists.{take-all}
 use Rattle.record_format.specs.Written.{encoded}
 use Rattle.record_format.specs.Reading.{decoded, items-in}
-use Rattle.record_format.specs.Calls.{check-answer}
+use Rattle.record_format.specs.Calls.{check-answer, SetsOf}
 use Rattle.record_format.specs.Meaning.{item-of, items-of}
-use Rattle.record_format.proofs.Verdicts.{items-counted, reads, written-back}
+use Rattle.record_format.proofs.Verdicts.{items-counted, made-of, written-back}
 use Rattle.record_format.proofs.Whole.{same-record, never-none, gather-next}
 use Rattle.record.proofs.reads.read.Needs as need
 use Rattle.record.proofs.reads.read.Needs.{in-Some, in-rest}
@@ -37,6 +37,6 @@ returns c =
     let n = items-counted (decoded bs) (c .in-Continue-count .count) count in
     let all = c .loop-i .inv .2 ∙ take-all (c .loop-i .i) (items-in bs) (omega arith) in
     record {
-      answer = reads (decoded bs) (c .in-Continue-count .count) (c .loop-i .sets) count all;
+      answer = made-of SetsOf (decoded bs) (c .in-Continue-count .count) (c .loop-i .sets) count all;
       writes-back = ap encoded all ∙ written-back bs (c .in-Continue-count .count) (λ i. c .typed .bytes i .fits) count;
     }
