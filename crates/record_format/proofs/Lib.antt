@@ -1,0 +1,15 @@
+pub mod Numbers
+pub mod Fitting
+pub mod Lengths
+pub mod Back
+pub mod Forth
+pub mod Places
+pub mod Accepting
+pub mod Standing
+pub mod Walk
+pub mod Numbering
+pub mod Verdicts
+pub mod Whole
+pub mod Writing
+pub mod Sets
+pub mod Records
