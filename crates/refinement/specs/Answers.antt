@@ -22,6 +22,7 @@ use Rattle.refinement.specs.Worlds.{phase-of, numbered-of}
 abbrev pub refusal : Reason → Answer
 refusal e = cond (from-store e) (fault (listed e .0)) (refused (listed e .0) (listed e .1))
 
+-- an answer that is listed by f, or the refusal
 abbrev pub answered : {A : Type 0} → (A → Answer) → Result A Reason → Answer
 answered f (Ok a) = f a
 answered f (Err e) = refusal e
@@ -30,6 +31,7 @@ answered f (Err e) = refusal e
 abbrev pub quiet : Unit {0} → Answer
 quiet u = Answer.done
 
+-- read-only, the number given, or the number that clashes
 abbrev pub verdict-listed : Verdict → Answer
 verdict-listed ReadOnly = read-only
 verdict-listed (Numbered n) = told n
@@ -39,8 +41,10 @@ verdict-listed (Clash n) = aborts n
 abbrev pub state-listed : TransactionState × ℕ → Answer
 state-listed x = values (x .1 ∷ phase-values (phase-of (x .0)))
 
+-- home, s, and the pairs
 abbrev pub set-listed : SetModel → Answer
 set-listed x = values (set-values (numbered-of x))
 
+-- how many are applied, and whether without holes
 abbrev pub progress-listed : Progress → Answer
 progress-listed q = values (q .applied ∷ flag (q .whole) ∷ [])

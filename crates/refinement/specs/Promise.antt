@@ -29,6 +29,7 @@ abbrev pub run-from : List Call → Bool → Machine → History × Machine
 run-from queue true b = run-of machine-step queue [] b
 run-from queue false b = ([], b)
 
+-- opened, and given the queue
 abbrev pub whole-run : Machine → List Call → History × Machine
 whole-run b queue = run-from queue (accepted (machine-open b .0)) (machine-open b .1)
 

@@ -16,6 +16,7 @@ use Rattle.refinement.specs.Stores.{law-bank}
 use Rattle.refinement.specs.Worlds.{middle-of, plain-of}
 use Rattle.refinement.specs.Steps.{machine-open, machine-step}
 
+-- every store of a bank keeps what every store keeps
 abbrev pub LawfulStores : List StoreModel → Type 0
 LawfulStores ms = (k : ℕ) → k < length ms → Lawful (store-at ms k)
 

@@ -12,12 +12,15 @@ use Rattle.law.specs.History.{Answer}
 use Rattle.law.specs.History.Answer.{told}
 use Rattle.refinement.specs.Answers.{answered, quiet, verdict-listed, state-listed, set-listed, progress-listed}
 
+-- what a call came to, its answer listed by f
 abbrev pub came : {A : Type 0} → (A → Answer) → Came A → Answer × Machine
 came f o = (answered f (o .answer), o .after)
 
+-- open
 abbrev pub machine-open : Machine → Answer × Machine
 machine-open b = came quiet (opening b)
 
+-- every other call; the questions leave the machine as it is
 abbrev pub machine-step : Call → Machine → Answer × Machine
 machine-step (Begin k) b = came told (beginning b k)
 machine-step (Read t j) b = (answered told (reading b t j), b)

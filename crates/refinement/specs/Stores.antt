@@ -13,12 +13,15 @@ use Rattle.law.specs.Store.{Place, Store}
 abbrev pub all-pairs : (ℕ → Option ℕ) → Pairs
 all-pairs own = pairs-from own 0 128
 
+-- a place, open or not
 abbrev pub law-place : Option model.Place → Option Place
 law-place None = None
 law-place (Some x) = Some (record { snapshot = x .snapshot; own = all-pairs (x .own); overtaken = x .overtaken })
 
+-- the same board, commits and most
 abbrev pub law-store : StoreModel → Store
 law-store m = record { board = m .board; commits = m .commits; most = m .most; places = map law-place (m .places) }
 
+-- the stores of a bank, by replica
 abbrev pub law-bank : List StoreModel → List Store
 law-bank ms = map law-store ms

@@ -15,6 +15,7 @@ use Rattle.law.specs.Sound as law
 use Rattle.law.specs.Sound.{Middle}
 use Rattle.refinement.specs.Stores.{law-bank}
 
+-- a state, by the law's name for it
 abbrev pub phase-of : TransactionState → Phase
 phase-of Open = Phase.live
 phase-of (Pending n) = Phase.pending n
@@ -22,9 +23,11 @@ phase-of Committed = Phase.committed
 phase-of Aborted = Phase.aborted
 phase-of GivenUp = Phase.given-up
 
+-- a transaction, with its place
 abbrev pub entry-of : Transaction → Entry
 entry-of x = record { home = x .home; s = x .s; place = x .place; phase = phase-of (x .state) }
 
+-- a numbered write set, without its marks
 abbrev pub numbered-of : SetModel → Numbered
 numbered-of x = record { who = x .transaction; home = x .home; s = x .s; pairs = x .pairs }
 
@@ -33,6 +36,7 @@ abbrev pub applied-of : List SetModel → ℕ → ℕ → Bool
 applied-of us k zero = false
 applied-of us k (suc n) = is-applied k (getD us n no-set)
 
+-- all that the machine keeps, and the bank
 abbrev pub world-of : Machine → World
 world-of b =
     record {
@@ -43,6 +47,7 @@ world-of b =
       bank = law-bank (b .stores);
     }
 
+-- opened or not
 abbrev pub middle-of : Machine → Middle
 middle-of b = cond (b .opened) (Middle.opened (world-of b)) (Middle.unopened (world-of b))
 
