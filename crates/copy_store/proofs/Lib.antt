@@ -1,0 +1,4 @@
+mod Writes
+mod Turns
+mod Kept
+mod Seated

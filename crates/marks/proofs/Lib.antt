@@ -1,0 +1,4 @@
+mod Bits
+mod AnyWords
+pub mod Scans
+pub mod Laws

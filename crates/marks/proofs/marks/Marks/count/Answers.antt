@@ -1,0 +1,14 @@
+-- The words answer for the set.
+use mathlib.Core.Path.{_≡_, sym, ap, _∙_}
+use native.Mathlib.Omega.{arith}
+use Prim.Native.Nat.{_*_}
+use lib.ListN.{length}
+use Rattle.marks.specs.Marked.{count-below}
+use Rattle.marks.proofs.Laws.{in-its-words}
+use Rattle.marks.proofs.marks.Marks.count.Needs as need
+
+pub returns : need.returns
+returns c =
+    let m = c .args .self .now in
+    let objects : 64 * length (m .words) ≡ 128 = omega arith in
+    record { answer = c .count .ensures .answer ∙ (λ i. count-below (sym (in-its-words m (omega arith)) i) (objects i)) }
