@@ -1,0 +1,9 @@
+pub mod Pairs
+pub mod Counts
+pub mod Lowest
+pub mod Clashes
+pub mod Held
+pub mod Histories
+pub mod Commits
+pub mod Links
+pub mod Chained
