@@ -1,9 +1,7 @@
 -- A call at one store leaves every other store as it was. Assumes nothing.
-use mathlib.Core.Path.{_≡_, refl, sym, subst}
-use mathlib.Core.List.{List, [], _∷_}
+use mathlib.Core.Path.{_≡_, sym, subst}
+use mathlib.Core.List.{List}
 use Prim.Native.Nat.{ℕ}
-use native.Mathlib.Omega.{arith}
-use lib.ListN.{length}
 use Rattle.std.proofs.shelf.Lists.{length-set, getD-set-other}
 use Rattle.stores.specs.Model.{StoreModel}
 use Rattle.banks.specs.Model.{no-store, store-at, changed, Others}

@@ -1,7 +1,7 @@
 -- A bank means the list of its stores' meanings: what a call at one of them answers and leaves.
 use mathlib.Core.Path.{_≡_}
 use mathlib.Core.Bool.{cond}
-use mathlib.Core.List.{List, [], _∷_}
+use mathlib.Core.List.{List, []}
 use Prim.Native.Nat.{ℕ, min}
 use lib.Dec.{ltb, eqb}
 use lib.ListN.{length, getD, set}

@@ -1,6 +1,6 @@
 // A store is a bank of one: its replica is 0.
 ghost use mathlib.Core.Path.{_≡_};
-ghost use mathlib.Core.List.{List, [], _∷_};
+ghost use mathlib.Core.List.{[], _∷_};
 ghost use Rattle.banks.specs.Model.{only-answer};
 use crate::api::Bank;
 use crate::fault::BankFault;

@@ -1,7 +1,7 @@
 -- A call at two lists of stores put together is a call at one of them. Assumes nothing.
 use mathlib.Core.Path.{_≡_, refl, sym, ap, subst, _∙_}
 use mathlib.Core.Bool.{Bool, true, false, cond}
-use mathlib.Core.List.{List, [], _∷_, _++_}
+use mathlib.Core.List.{List, _++_}
 use mathlib.Core.Logic.{⊎-elim}
 use Prim.Native.Nat.{ℕ, _+_, _-_, _≤_, _<_}
 use native.Mathlib.Omega.{arith}
@@ -14,8 +14,6 @@ use Rattle.std.specs.declared.result.Result.the-variants.{Ok, Err}
 use Rattle.stores.specs.declared.fault.StoreFault.{StoreFault}
 use Rattle.stores.specs.Model.{StoreModel, Lawful}
 use Rattle.banks.specs.declared.fault.BankFault.{BankFault}
-use Rattle.banks.specs.declared.fault.BankFault.the-variants.{NoReplica, At}
-use Rattle.beside.specs.declared.Side.{Side}
 use Rattle.beside.specs.declared.Side.the-variants.{Left, Right}
 use Rattle.banks.specs.Model.{no-store, store-at, lifted, asked, changed}
 use Rattle.beside.specs.Sides.{side-of, renumbered}

@@ -1,6 +1,6 @@
 // Two banks side by side are a bank: the left one's replicas come first, then the right one's.
 ghost use mathlib.Core.Path.{_≡_};
-ghost use mathlib.Core.List.{List, _++_};
+ghost use mathlib.Core.List.{_++_};
 ghost use lib.ListN.{length};
 ghost use Rattle.beside.specs.Sides.{side-of, renumbered};
 use banks::Bank;

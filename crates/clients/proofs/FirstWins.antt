@@ -1,8 +1,7 @@
 -- What the calls of a race come to, and that the first committer wins. Assumes nothing.
-use mathlib.Core.Path.{_≡_, refl, sym, ap, _∙_}
-use mathlib.Core.Bool.{Bool, true, false, cond}
+use mathlib.Core.Path.{_≡_, sym, ap, _∙_}
+use mathlib.Core.Bool.{true, false, cond}
 use Prim.Native.Nat.{ℕ, _<_}
-use native.Mathlib.Omega.{arith}
 use lib.Dec.{eqb}
 use Rattle.std.specs.declared.option.Option.the-variants.{Some}
 use Rattle.std.specs.declared.result.Result.{Result}
@@ -21,7 +20,7 @@ use Rattle.clients.specs.declared.race.Order.{Order}
 use Rattle.clients.specs.declared.race.Order.the-variants.{LeftFirst, RightFirst}
 use Rattle.clients.specs.declared.race.Race.{Race}
 use Rattle.clients.specs.Committed.{Closed, room, written-place, committed, opened-after}
-use Rattle.clients.specs.Races.{first-of, second-of, settled-race, settled-both, both-opened, second-answer, raced, raced-after, winner, loser, race-answer, race-after, FirstWins, FirstCommitterWins}
+use Rattle.clients.specs.Races.{first-of, second-of, settled-race, settled-both, both-opened, second-answer, raced, raced-after, winner, loser, race-answer, race-after, FirstCommitterWins}
 use Rattle.clients.proofs.Writes.{begun-is, begun-err, closed-begin}
 use Rattle.clients.proofs.Landing.{roomy, committed-lands}
 use Rattle.clients.proofs.Racing.{left-open, left-opened, left-freed, right-refused, right-opened, settles, both-raced}

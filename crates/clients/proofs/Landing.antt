@@ -1,23 +1,22 @@
 -- A write set committed in a place of its own. Assumes nothing.
 use mathlib.Core.Path.{_≡_, refl, sym, ap, _∙_}
 use mathlib.Core.Bool.{Bool, true, false, cond, _&&_, _||_}
-use mathlib.Core.List.{List, [], _∷_, map}
+use mathlib.Core.List.{map}
 use mathlib.Core.Logic.{⊎-elim}
-use Prim.Native.Nat.{ℕ, zero, suc, _+_, _≤_, _<_}
+use Prim.Native.Nat.{ℕ, zero, suc, _<_}
 use native.Mathlib.Omega.{arith}
-use lib.Dec.{ltb, eqb}
+use lib.Dec.{eqb}
 use lib.ListN.{length, getD}
-use Rattle.std.specs.declared.option.Option.{Option}
 use Rattle.std.specs.declared.option.Option.the-variants.{Some, None}
 use Rattle.std.specs.declared.result.Result.{Result}
 use Rattle.std.specs.declared.result.Result.the-variants.{Ok, Err}
 use Rattle.std.proofs.shelf.Lists.{length-map, getD-map, getD-past}
 use Rattle.std.proofs.shelf.Tests.{ne-eqb, cases-lt}
-use Rattle.tickets.specs.WriteSets.{Pairs, lookup, stands, play}
+use Rattle.tickets.specs.WriteSets.{Pairs, stands}
 use Rattle.stores.specs.declared.fault.StoreFault.{StoreFault}
 use Rattle.stores.specs.declared.fault.StoreFault.the-variants.{Overtaken}
 use Rattle.stores.specs.declared.work.Work.{Work}
-use Rattle.stores.specs.Model.{StoreModel, Place, nothing, clashes, any-below, with-place, begin-answer, commit-answer, overtaken-by, bind, leaves}
+use Rattle.stores.specs.Model.{StoreModel, nothing, clashes, any-below, with-place, begin-answer, commit-answer, overtaken-by, bind, leaves}
 use Rattle.stores.specs.Works.{begun}
 use Rattle.clients.specs.Committed.{Closed, room, written-place, opened-after, committed, write-set-answer, write-set-after, Landed}
 use Rattle.clients.specs.Steps.{settled-after}

@@ -1,29 +1,26 @@
 -- Two places opened on the same board, settled one after the other. Assumes nothing.
-use mathlib.Core.Path.{_≡_, refl, sym, ap, subst, _∙_}
+use mathlib.Core.Path.{_≡_, refl, sym, ap, _∙_}
 use mathlib.Core.Bool.{Bool, true, false, cond, _&&_, _||_}
-use mathlib.Core.List.{List, [], _∷_, map}
 use mathlib.Core.Logic.{_⊎_, ⊎-elim, inl, inr}
-use Prim.Native.Nat.{ℕ, zero, suc, _+_, _≤_, _<_}
+use Prim.Native.Nat.{ℕ, zero, suc, _+_, _<_}
 use native.Mathlib.Omega.{arith}
 use lib.Dec.{ltb, eqb}
 use lib.ListN.{length, getD, set}
-use Rattle.std.specs.declared.option.Option.{Option}
 use Rattle.std.specs.declared.option.Option.the-variants.{Some, None}
 use Rattle.std.specs.declared.result.Result.{Result}
 use Rattle.std.specs.declared.result.Result.the-variants.{Ok, Err}
 use Rattle.std.proofs.shelf.Lists.{length-set, length-map, getD-map, getD-set-same, getD-set-other, set-comm, map-set}
-use Rattle.std.proofs.shelf.Tests.{lt-ltb, eq-eqb, ne-eqb, eqb-false, cases-eq, cases-bool, and-parts, and-from, or-cases, or-left, or-right, both-ways}
+use Rattle.std.proofs.shelf.Tests.{lt-ltb, eq-eqb, ne-eqb, cases-eq, and-parts, and-from, or-cases, or-left, or-right}
 use Rattle.tickets.specs.WriteSets.{Pairs, lookup, stands, shares}
 use Rattle.tickets.proofs.Playing.{shares-from, shares-common}
 use Rattle.stores.specs.declared.fault.StoreFault.{StoreFault}
 use Rattle.stores.specs.declared.fault.StoreFault.the-variants.{Overtaken, PlaceOpen}
-use Rattle.stores.specs.Model.{StoreModel, Place, nothing, clashes, any-below, with-place, begin-answer, commit-answer, abort-after, overtaken-by, bind, leaves}
+use Rattle.stores.specs.Model.{StoreModel, Place, nothing, any-below, with-place, begin-answer, commit-answer, abort-after, overtaken-by, bind, leaves}
 use Rattle.tickets.specs.Meaning.{pairs}
 use Rattle.stores.proofs.Steps.{same-place}
 use Rattle.clients.specs.declared.race.Entry.{Entry}
 use Rattle.clients.specs.declared.race.Order.{Order}
 use Rattle.clients.specs.declared.race.Order.the-variants.{LeftFirst, RightFirst}
-use Rattle.clients.specs.declared.race.Race.{Race}
 use Rattle.clients.specs.Committed.{Closed, room, written-place, opened-after, committed}
 use Rattle.clients.specs.Steps.{settled-after}
 use Rattle.clients.specs.Races.{first-of, second-of, settled-race, settled-both, both-opened, second-answer, raced, raced-after, winner, loser, race-answer, race-after}

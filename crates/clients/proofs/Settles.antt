@@ -1,30 +1,29 @@
 -- Work that is settled: committed, or aborted where the store is full. Assumes nothing.
 use mathlib.Core.Path.{_≡_, refl, sym, ap, _∙_}
-use mathlib.Core.Bool.{Bool, true, false, cond, _&&_, _||_}
+use mathlib.Core.Bool.{Bool, true, false, cond}
 use mathlib.Core.List.{List, [], _∷_, map}
 use mathlib.Core.Logic.{⊎-elim}
-use Prim.Native.Nat.{ℕ, zero, suc, _+_, _≤_, _<_}
+use Prim.Native.Nat.{ℕ, zero, suc, _+_, _<_}
 use native.Mathlib.Omega.{arith}
-use lib.Dec.{ltb, eqb}
+use lib.Dec.{eqb}
 use lib.ListN.{length, getD, set}
 use Rattle.std.specs.Options.{isSome}
 use Rattle.std.specs.declared.option.Option.{Option}
 use Rattle.std.specs.declared.option.Option.the-variants.{Some, None}
 use Rattle.std.specs.declared.result.Result.{Result}
 use Rattle.std.specs.declared.result.Result.the-variants.{Ok, Err}
-use Rattle.std.proofs.shelf.Lists.{length-map, getD-map, getD-past, map-set, set-set, set-getD}
-use Rattle.std.proofs.shelf.Tests.{ne-eqb, cases-lt, cases-eq, cond-true, eq-eqb}
+use Rattle.std.proofs.shelf.Lists.{getD-map, map-set, set-set, set-getD}
+use Rattle.std.proofs.shelf.Tests.{ne-eqb, cases-eq, cond-true, eq-eqb}
 use Rattle.tickets.specs.Boards.{Board}
-use Rattle.tickets.specs.WriteSets.{Pairs, rising, lookup, stands, play}
+use Rattle.tickets.specs.WriteSets.{Pairs, lookup, stands}
 use Rattle.stores.specs.declared.fault.StoreFault.{StoreFault}
 use Rattle.stores.specs.declared.fault.StoreFault.the-variants.{NoObject, NoPlace, NinthObject, Overtaken, Full, PlaceOpen, PlaceClosed}
 use Rattle.stores.specs.declared.work.Work.{Work}
-use Rattle.stores.specs.declared.work.Unfinished.{Unfinished}
-use Rattle.stores.specs.declared.work.Unfinished.the-variants.{Ended, Back}
-use Rattle.stores.specs.Model.{StoreModel, Place, place-at, with-place, own-count, written, clashes, count-below, any-below, commit-answer, commit-after, abort-after, landed, overtaken-by, spread, bind, leaves}
+use Rattle.stores.specs.declared.work.Unfinished.the-variants.{Back}
+use Rattle.stores.specs.Model.{StoreModel, Place, with-place, own-count, clashes, count-below, commit-answer, commit-after, abort-after, landed, overtaken-by, spread, leaves}
 use Rattle.stores.specs.Works.{ended}
 use Rattle.stores.proofs.Steps.{same-place}
-use Rattle.clients.specs.Committed.{Closed, room, committed, Landed}
+use Rattle.clients.specs.Committed.{Closed, room, committed}
 use Rattle.clients.specs.Steps.{ended-after, settled-after}
 use Rattle.clients.proofs.Pairs.{Fit, first-within, played-is-play}
 use Rattle.clients.proofs.Writes.{place-put, put-put}

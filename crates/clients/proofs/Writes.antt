@@ -1,11 +1,11 @@
 -- Writes in a row at a store: one more, and a whole write set into a place that was just opened. Assumes nothing.
-use mathlib.Core.Path.{_≡_, refl, sym, ap, subst, _∙_}
+use mathlib.Core.Path.{_≡_, refl, sym, ap, _∙_}
 use mathlib.Core.Bool.{Bool, true, false, cond, _||_}
-use mathlib.Core.List.{List, [], _∷_}
+use mathlib.Core.List.{[], _∷_}
 use mathlib.Core.Logic.{⊎-elim}
 use Prim.Native.Nat.{ℕ, zero, suc, _+_, _≤_, _<_}
 use native.Mathlib.Omega.{arith}
-use lib.Dec.{ltb, eqb}
+use lib.Dec.{ltb}
 use lib.ListN.{length, getD, set, drop}
 use Rattle.std.specs.Options.{isSome}
 use Rattle.std.specs.declared.option.Option.{Option}
@@ -13,11 +13,11 @@ use Rattle.std.specs.declared.option.Option.the-variants.{Some, None}
 use Rattle.std.specs.declared.result.Result.{Result}
 use Rattle.std.specs.declared.result.Result.the-variants.{Ok, Err}
 use Rattle.std.proofs.shelf.Lists.{length-set, getD-set-same, set-set}
-use Rattle.std.proofs.shelf.Tests.{lt-ltb, ltb-true, eq-eqb, ne-eqb, cases-eq, or-right}
-use Rattle.tickets.specs.WriteSets.{Pairs, rising, lookup}
+use Rattle.std.proofs.shelf.Tests.{lt-ltb, ltb-true, ne-eqb, cases-eq, or-right}
+use Rattle.tickets.specs.WriteSets.{Pairs, rising}
 use Rattle.stores.specs.declared.fault.StoreFault.{StoreFault}
 use Rattle.stores.specs.declared.fault.StoreFault.the-variants.{NoPlace}
-use Rattle.stores.specs.Model.{StoreModel, Place, place-at, vacant, with-place, with-own, write-at, write-place, write-answer, write-after, own-count, written, count-below, begin-answer, begin-after, fresh, no-writes, leaves, done}
+use Rattle.stores.specs.Model.{StoreModel, Place, place-at, vacant, with-place, with-own, write-place, write-answer, write-after, own-count, written, count-below, begin-answer, begin-after, fresh, leaves, done}
 use Rattle.stores.specs.Works.{begun}
 use Rattle.stores.specs.declared.work.Work.{Work}
 use Rattle.clients.specs.Committed.{Closed, written-place, opened-after}
