@@ -12,6 +12,7 @@ use Rattle.copy_store.specs.declared.place.Place.{Place}
 abbrev pub own-of : Place → ℕ → Option ℕ
 own-of pl = λ j. cond (marked (pl .wrote) j) (Some (getD (pl .own) j 0)) None
 
+-- what a place means
 abbrev pub place-of : Place → model.Place
 place-of pl = record { snapshot = pl .snapshot; own = own-of pl; overtaken = marked (pl .overtaken) }
 

@@ -25,6 +25,7 @@ marked m j = ltb j 128 && marked-in (m .words) j
 
 -- ---- marks as a test of the object
 
+-- nothing is marked
 abbrev pub no-mark : ℕ → Bool
 no-mark k = false
 
@@ -32,9 +33,11 @@ no-mark k = false
 abbrev pub with-mark : ℕ → ℕ → Bool → (ℕ → Bool) → ℕ → Bool
 with-mark n j b f = cond (ltb j n) (λ k. cond (eqb k j) b (f k)) f
 
+-- what one of two marks
 abbrev pub either : (ℕ → Bool) → (ℕ → Bool) → ℕ → Bool
 either f g = λ k. f k || g k
 
+-- what both of two mark
 abbrev pub both : (ℕ → Bool) → (ℕ → Bool) → ℕ → Bool
 both f g = λ k. f k && g k
 

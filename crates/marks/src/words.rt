@@ -1,4 +1,5 @@
 // Marks in however many words of 64 bits: the mark of object j is bit j mod 64, from the lowest, of word j div 64.
+// Below 2^26 words a count of 32 bits holds every mark.
 ghost use mathlib.Core.Path.{_≡_};
 ghost use mathlib.Core.Bool.{true, false};
 ghost use Prim.Native.Nat.{_-_, _*_, _^_, _<_};
@@ -8,7 +9,7 @@ ghost use Rattle.marks.specs.Marked.{marked-in, with-mark, either, both, count
 const BITS: usize = 64;
 
 /// Whether an object is marked.
-pub fn has(words: &[u64], object: usize) -> bool
+pub(crate) fn has(words: &[u64], object: usize) -> bool
     ensures answer { λ r. ⌜ r ≡ marked-in (now (words .entry)) object ⌝ }
 {
     let word = object / BITS;
@@ -16,7 +17,7 @@ pub fn has(words: &[u64], object: usize) -> bool
 }
 
 /// Marks an object.
-pub fn mark(words: &mut [u64], object: usize)
+pub(crate) fn mark(words: &mut [u64], object: usize)
     ensures after { λ _. ⌜ marked-in (now (words .exit)) ≡ with-mark (64 * length (now (words .entry))) object true (marked-in (now (words .entry))) ⌝ }
 {
     let word = object / BITS;
@@ -26,7 +27,7 @@ pub fn mark(words: &mut [u64], object: usize)
 }
 
 /// Takes an object's mark off.
-pub fn unmark(words: &mut [u64], object: usize)
+pub(crate) fn unmark(words: &mut [u64], object: usize)
     ensures after { λ _. ⌜ marked-in (now (words .exit)) ≡ with-mark (64 * length (now (words .entry))) object false (marked-in (now (words .entry))) ⌝ }
 {
     let word = object / BITS;
@@ -36,7 +37,7 @@ pub fn unmark(words: &mut [u64], object: usize)
 }
 
 /// How many objects are marked.
-pub fn count(words: &[u64]) -> u32
+pub(crate) fn count(words: &[u64]) -> u32
     requires { ⌜ length (now words) < 2 ^ 26 ⌝ }
     ensures answer { λ r. ⌜ r ≡ count-below (marked-in (now (words .entry))) (64 * length (now (words .entry))) ⌝ }
 {
@@ -48,7 +49,7 @@ pub fn count(words: &[u64]) -> u32
 }
 
 /// The lowest marked object from an object on.
-pub fn lowest_from(words: &[u64], object: usize) -> Option<usize>
+pub(crate) fn lowest_from(words: &[u64], object: usize) -> Option<usize>
     requires { ⌜ length (now words) < 2 ^ 26 ⌝ }
     ensures answer { λ r. ⌜ r ≡ lowest-from (marked-in (now (words .entry))) object (64 * length (now (words .entry)) - object) ⌝ }
     ensures lowest { λ r. ⌜ Lowest (marked-in (now (words .entry))) object r ⌝ }
@@ -65,7 +66,7 @@ pub fn lowest_from(words: &[u64], object: usize) -> Option<usize>
 }
 
 /// Marks every object that is marked in the other words.
-pub fn join(words: &mut [u64], other: &[u64])
+pub(crate) fn join(words: &mut [u64], other: &[u64])
     requires { ⌜ length (now words) ≡ length (now other) ⌝ }
     ensures after { λ _. ⌜ marked-in (now (words .exit)) ≡ either (marked-in (now (words .entry))) (marked-in (now (other .entry))) ⌝ }
 {
@@ -75,7 +76,7 @@ pub fn join(words: &mut [u64], other: &[u64])
 }
 
 /// Whether some object is marked in both.
-pub fn meet(words: &[u64], other: &[u64]) -> bool
+pub(crate) fn meet(words: &[u64], other: &[u64]) -> bool
     requires { ⌜ length (now words) ≡ length (now other) ⌝ }
     ensures answer { λ r. ⌜ r ≡ any-below (both (marked-in (now (words .entry))) (marked-in (now (other .entry)))) (64 * length (now (words .entry))) ⌝ }
 {
