@@ -2,6 +2,7 @@
 pub mod api;
 pub mod fault;
 pub mod work;
+
 pub use api::Store;
 pub use fault::StoreFault;
 pub use work::Unfinished;

@@ -49,7 +49,12 @@ impl Work {
     }
 
     /// Writes a value to an object.
-    pub fn write<S: Store>(&self, store: &mut S, object: usize, value: u32) -> Result<(), StoreFault>
+    pub fn write<S: Store>(
+        &self,
+        store: &mut S,
+        object: usize,
+        value: u32,
+    ) -> Result<(), StoreFault>
         ensures answer { λ r. ⌜ r ≡ write-answer (S·Store .meaning (now (store .entry))) (place-of (now (self .entry))) object value ⌝ }
         ensures after { λ _. ⌜ S·Store .meaning (now (store .exit)) ≡ write-after (S·Store .meaning (now (store .entry))) (place-of (now (self .entry))) object value ⌝ }
     {

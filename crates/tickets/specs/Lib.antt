@@ -1,3 +1,4 @@
 pub mod Boards
 pub mod WriteSets
 pub mod Meaning
+pub mod Laws

@@ -11,6 +11,7 @@ use Rattle.tickets.specs.Boards as boards
 use Rattle.tickets.specs.WriteSets.{Pairs, is-write-set}
 use Rattle.tickets.specs.declared.pair.Pair.{Pair}
 use Rattle.tickets.specs.declared.board.Board.{Board}
+use Rattle.tickets.specs.declared.write_set.WriteSet.{WriteSet}
 
 abbrev pub pair-of : Pair → ℕ × ℕ
 pair-of p = (p .object, p .value)
@@ -19,6 +20,10 @@ pair-of p = (p .object, p .value)
 abbrev pub pairs-of : ℕ → List ℕ → List ℕ → Pairs
 pairs-of n objects values = zipped (take n objects) (take n values)
 
+-- a write set means its pairs, in order
+abbrev pub pairs : WriteSet → Pairs
+pairs w = pairs-of (w .len) (w .objects) (w .values)
+
 -- a board means its values, by object
 abbrev pub values : Board → boards.Board
 values b = b .values
@@ -26,3 +31,6 @@ values b = b .values
 -- the pairs as a write set, exactly where they are one
 abbrev pub built : Pairs → Option Pairs
 built ps = cond (is-write-set ps) (Some ps) None
+
+abbrev pub set-pairs : Option WriteSet → Option Pairs
+set-pairs o = mapped pairs o
