@@ -1,5 +1,7 @@
+// What may be answered to a line.
+
 // The most bytes that an answer takes: a caller that lends so many for each line never meets a refusal.
-pub const MOST_BYTES: usize = 32;
+pub const ANSWER_BYTES: usize = 32;
 
 // What is printed in answer to one line of a script.
 #[derive(Clone, Copy, PartialEq, Eq, Debug)]

@@ -3,7 +3,7 @@ pub mod answer;
 mod bytes;
 mod printing;
 
-pub use answer::MOST_BYTES;
+pub use answer::ANSWER_BYTES;
 pub use answer::Printed;
 
 #[cfg(test)]

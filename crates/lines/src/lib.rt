@@ -6,8 +6,8 @@ pub mod reading;
 pub mod token;
 pub mod tokens;
 
-pub use limits::MOST_BYTES;
-pub use limits::MOST_LINES;
+pub use limits::SCRIPT_BYTES;
+pub use limits::SCRIPT_LINES;
 pub use limits::fits;
 pub use lines::Lines;
 pub use lines::LinesIterator;

@@ -41,6 +41,7 @@ fn part<'a>(script: &'a [u8]) -> Option<(&'a [u8], &'a [u8])>
 }
 
 impl<'a> Lines<'a> {
+    /// All the lines of a script.
     pub fn new(script: &'a [u8]) -> Lines<'a>
         ensures answer { λ r. ⌜ lines-left r ≡ lines-of (now (script .entry)) ⌝ }
     {

@@ -9,8 +9,8 @@ mod words;
 
 #[derive(Clone, Copy, Debug)]
 pub struct Tokens<'a> {
-    pub(crate) line: &'a [u8],
+    line: &'a [u8],
     // where the next token is to be cut
-    pub(crate) at: usize,
+    at: usize,
     ghost within: { at ≤ length (now line) },
 }

@@ -1,7 +1,6 @@
-// Cutting a token off.
+// The token in front of what is left of a line.
 ghost use mathlib.Core.Path.{_≡_};
 ghost use Prim.Native.Nat.{_+_, _^_, _<_, _≤_};
-ghost use denote.Ref.{now};
 ghost use lib.ListN.{length, drop};
 ghost use Rattle.std.specs.Options.{mapped};
 ghost use Rattle.std.specs.Text.{asciiDigit};

@@ -1,3 +1,4 @@
+// Cutting a line, token by token.
 ghost use mathlib.Core.Path.{_≡_};
 ghost use mathlib.Core.List.{_++_};
 ghost use Prim.Native.Nat.{_+_};
@@ -10,6 +11,7 @@ use crate::tokens::Tokens;
 use crate::tokens::front::token_at;
 
 impl<'a> Tokens<'a> {
+    /// A line, nothing of it cut off yet.
     pub fn new(line: &'a [u8]) -> Tokens<'a>
         ensures answer { λ r. ⌜ left-of r ≡ now (line .entry) ⌝ }
         ensures place { λ r. ⌜ place-of r ≡ 0 ⌝ }
