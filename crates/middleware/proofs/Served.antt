@@ -24,13 +24,17 @@ use Rattle.tickets.specs.Boards.{Board}
 use Rattle.stores.specs.Model.{StoreModel}
 use mathlib.Core.Bool.{false}
 use Rattle.refinement.specs.Promise.{Ran}
+use Rattle.machine.specs.Beginning.{beginning}
+use Rattle.refinement.specs.Places.{PlaceWasShut}
+use Rattle.refinement.proofs.Begun.{every-place}
 use Rattle.refinement.proofs.Calls.{every-call}
 use Rattle.refinement.proofs.Opened.{every-making, every-opening, opening-keeps-stores}
 use Rattle.refinement.proofs.Queues.{ran-more}
+use Rattle.middleware.specs.declared.fault.Asked.{Asked}
 use Rattle.middleware.specs.declared.fault.BoardFault.{BoardFault}
 use Rattle.middleware.specs.declared.answer.Answer.{Answer as Answer′}
-use Rattle.middleware.specs.Listing.{listed, result-listed, asked-as, past}
-use Rattle.middleware.specs.Serving.{Serves, Tells, Made, Opens, RunsOn}
+use Rattle.middleware.specs.Listing.{listed, result-listed, asked-to, asked-as, past}
+use Rattle.middleware.specs.Serving.{Serves, Tells, Names, GetsShutPlace, Made, Opens, RunsOn}
 
 -- the call beside a refusal does not change what is listed
 listed-as : {A : Type 0} (f : A → Answer) (c : Call) (r : Result A Reason) → result-listed f (asked-as c r) ≡ answered f r
@@ -114,7 +118,24 @@ pub opens : (before after : Machine) (a : Answer) → a ≡ machine-open before 
 opens before after a answer left =
     record {
       follows = λ sound.
-        let e = every-opening before sound in
-        record { answer = answer ∙ e .answer; after = ap plain-of left ∙ e .after; sound = subst Sound (sym left) (e .sound) };
+          let e = every-opening before sound in
+          record { answer = answer ∙ e .answer; after = ap plain-of left ∙ e .after; sound = subst Sound (sym left) (e .sound) };
       bank = ap (λ (x : Machine). x .stores) left ∙ opening-keeps-stores before;
     }
+
+-- the place that a begin takes
+told-as : (c : Call) (q : Result ℕ Reason) (r : Result ℕ BoardFault) (t : ℕ) → r ≡ asked-as c q → r ≡ Ok t → q ≡ Ok t
+told-as c (Ok n) r t e f = let z : n ≡ t = cc in ap Ok z
+told-as c (Err x) r t e f = let z : _≡_ {A = ℕ} 0 1 = cc in absurd (omega arith)
+
+pub gets-shut-place : (c : Call) (before after : Machine) (k : ℕ) (q : Result ℕ Reason) (r : Result ℕ BoardFault) → r ≡ asked-as c q → q ≡ beginning before k .answer → after ≡ beginning before k .after → GetsShutPlace before k r after
+gets-shut-place c before after k q r said answer left t is =
+    subst (PlaceWasShut before k t) (sym left) (every-place before k t (sym answer ∙ told-as c q r t said is))
+
+-- what was asked stands beside a refusal
+named-so : {A : Type 0} (what : Asked) (q : Result A Reason) → Names what (asked-to what q)
+named-so what (Ok a) = tt
+named-so what (Err e) = refl
+
+pub named : {A : Type 0} (what : Asked) (q : Result A Reason) (r : Result A BoardFault) → r ≡ asked-to what q → Names what r
+named {A} what q r e = subst (λ (x : Result A BoardFault). Names what x) (sym e) (named-so what q)

@@ -7,7 +7,12 @@ use Rattle.calls.specs.declared.call.Call.{Call}
 use Rattle.law.specs.History.{Answer, History}
 use Rattle.law.specs.Opening.{PlainBoard, board-step, board-open}
 use Rattle.stores.specs.Model.{StoreModel}
+use Rattle.std.specs.declared.result.Result.{Result}
+use Rattle.std.specs.declared.result.Result.the-variants.{Ok, Err}
 use Rattle.machine.specs.Machine.{Machine}
+use Rattle.refinement.specs.Places.{PlaceWasShut}
+use Rattle.middleware.specs.declared.fault.Asked.{Asked}
+use Rattle.middleware.specs.declared.fault.BoardFault.{BoardFault}
 use Rattle.refinement.specs.Stores.{law-bank}
 use Rattle.refinement.specs.Worlds.{plain-of}
 use Rattle.refinement.specs.Sound.{Sound, Follows}
@@ -20,6 +25,15 @@ Serves c before a after = Sound before → Follows (board-step c (plain-of befor
 -- a call that changes nothing: the plain board's answer
 abbrev pub Tells : Call → Machine → Answer → Type 0
 Tells c m a = Sound m → a ≡ board-step c (plain-of m) .0
+
+-- a refusal carries what was asked
+abbrev pub Names : {A : Type 0} → Asked → Result A BoardFault → Type 0
+Names what (Ok a) = Unit {0}
+Names what (Err f) = f .asked ≡ what
+
+-- which place a transaction gets is free: it is one that was not open at its home
+abbrev pub GetsShutPlace : Machine → ℕ → Result ℕ BoardFault → Machine → Type 0
+GetsShutPlace before k r after = (t : ℕ) → r ≡ Ok t → PlaceWasShut before k t after
 
 -- a board just made over a bank with these stores
 pub record Made (ms : List StoreModel) (m : Machine) : Type 0 where

@@ -4,6 +4,7 @@ pub mod fault;
 pub mod middleware;
 pub mod queues;
 pub mod run;
+
 pub use answer::Answer;
 pub use fault::Asked;
 pub use fault::BoardFault;

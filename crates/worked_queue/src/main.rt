@@ -1,16 +1,16 @@
 // Opens a bank of version, copy, version and copy store, runs a queue of calls from all stations, and prints each answer.
+use banks::single::StoreBank;
+use beside::BesideBank;
 use calls::Call;
+use copy_store::CopyStoreStore;
 use ledger::TransactionState;
 use machine::Reason;
 use middleware::Answer;
 use middleware::Unrun;
 use middleware::run_queue;
 use shop::empty_bank;
-use beside::BesideBank;
-use banks::single::StoreBank;
-use version_store::VersionStoreStore;
-use copy_store::CopyStoreStore;
 use std::error::AnyError;
+use version_store::VersionStoreStore;
 
 const QUEUE: [Call; 19] = [
     Call::Begin(0),

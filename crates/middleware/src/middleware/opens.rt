@@ -4,7 +4,8 @@ ghost use Rattle.std.specs.Results.{Cases};
 ghost use Rattle.refinement.specs.Answers.{quiet};
 ghost use Rattle.middleware.specs.Listing.{result-listed, asked-to};
 ghost use Rattle.middleware.specs.Meaning.{held};
-ghost use Rattle.middleware.specs.Serving.{Made, Opens};
+ghost use Rattle.middleware.specs.Serving.{Made, Opens, Names};
+ghost use Rattle.middleware.specs.declared.fault.Asked.the-variants.{Open};
 use crate::fault::Asked;
 use crate::fault::BoardFault;
 use crate::middleware::Middleware;
@@ -24,6 +25,7 @@ impl<B: Bank> Middleware<B> {
     /// Opens the bank for calls.
     pub fn open(&mut self) -> Result<(), BoardFault>
         ensures law { λ r. ⌜ Opens (held (B·Bank .stores) (now (self .entry))) (result-listed quiet r) (held (B·Bank .stores) (now (self .exit))) ⌝ }
+        ensures names { λ r. ⌜ Names Open r ⌝ }
     {
         match self.engine.open() {
             Ok(done) => Ok(done),

@@ -9,8 +9,8 @@ ghost use Rattle.middleware.specs.Meaning.{held};
 ghost use Rattle.middleware.specs.Serving.{Serves, RunsOn};
 use crate::answer::Answer;
 use crate::middleware::Middleware;
-use calls::Call;
 use banks::Bank;
+use calls::Call;
 
 impl<B: Bank> Middleware<B> {
     /// Answers any call of a queue.

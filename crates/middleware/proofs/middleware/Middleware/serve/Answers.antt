@@ -16,10 +16,11 @@ loop-call-again g c =
     let m = held (g .B·Bank .stores) in
     let inv = c .loop-call .inv in
     let i = c .loop-call .call-index in
-    let long : length (vec-items (c .loop-call .answers)) ≡ i = sym (c .loop-call .answers .ok .0) ∙ inv .0 in
-    (omega (arith, c .push-reserved .ensures .len, inv .0),
-     omega (arith, c .push-reserved .ensures .capacity, inv .1),
-     runs-next (m (c .args .self .now)) (m (c .loop-call .self)) (m (c .call .last .self)) (c .args .queue .now) i (vec-items (c .loop-call .answers)) (vec-items (c .push-reserved .last .self)) _ (c .call .result) (c .loop-call-test .taken) long (c .push-reserved .ensures .items) (inv .2) (c .call .ensures .law))
+    let long : length (vec-items (c .loop-call .answers)) ≡ i = sym (c .loop-call .answers .ok .0) ∙ inv .0 in (
+      omega (arith, c .push-reserved .ensures .len, inv .0),
+      omega (arith, c .push-reserved .ensures .capacity, inv .1),
+      runs-next (m (c .args .self .now)) (m (c .loop-call .self)) (m (c .call .last .self)) (c .args .queue .now) i (vec-items (c .loop-call .answers)) (vec-items (c .push-reserved .last .self)) _ (c .call .result) (c .loop-call-test .taken) long (c .push-reserved .ensures .items) (inv .2) (c .call .ensures .law),
+    )
 
 pub returns : need.returns
 returns g c =
