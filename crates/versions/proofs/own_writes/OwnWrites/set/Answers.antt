@@ -14,7 +14,7 @@ ghost-self c =
     let w = c .args .self .now in
     let at = c .in-Some .ensures tt in
     let q : Pair = record { object = c .args .object; value = c .args .value } in
-    (length-set (w .pairs) (c .in-Some .i) q ∙ w .whole, (w .few, (held-over w q (c .in-Some .i) (at .0) (at .1) .once, tt)))
+    (length-set (w .pairs) _ q ∙ w .whole, (w .few, (held-over w q (c .in-Some .i) (at .0) (at .1) .once, tt)))
 
 pub returns-in-Some : need.returns-in-Some
 returns-in-Some c =
@@ -36,7 +36,7 @@ ghost-self-in-None c =
     let w = c .args .self .now in
     let q : Pair = record { object = c .args .object; value = c .args .value } in
     let less : w .count < 8 = omega (arith, w .few, c .if-self-eq-MOST-PAIRS .left) in
-    (length-set (w .pairs) (w .count) q ∙ w .whole, (omega arith, (held-new w q less (c .if-object-ge-OBJECTS .left) (c .in-None .ensures tt) .once, tt)))
+    (length-set (w .pairs) _ q ∙ w .whole, (omega arith, (held-new w q less (c .if-object-ge-OBJECTS .left) (c .in-None .ensures tt) .once, tt)))
 
 pub returns-else-self-eq-MOST-PAIRS : need.returns-else-self-eq-MOST-PAIRS
 returns-else-self-eq-MOST-PAIRS c =
