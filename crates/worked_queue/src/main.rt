@@ -11,6 +11,7 @@ use middleware::run_queue;
 use shop::empty_bank;
 use std::error::AnyError;
 use version_store::VersionStoreStore;
+use machine::reason::ReasonDebug;
 
 const QUEUE: [Call; 19] = [
     Call::Begin(0),
