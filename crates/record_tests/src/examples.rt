@@ -27,7 +27,10 @@ fn no_write_sets() -> Result<(), Fail> {
     check_eq(write(&[], &mut buffer), Ok(2))?;
     check_eq(buffer, [0, 0, 9])?;
     check_eq(check_record(b"\x00\x00"), Ok(0))?;
-    check_eq(check_record(b"\x00\x00\x00"), Err(RecordFault::Malformed { item: 1 }))
+    check_eq(
+        check_record(b"\x00\x00\x00"),
+        Err(RecordFault::Malformed { item: 1 }),
+    )
 }
 
 #[test]
@@ -54,10 +57,22 @@ fn one_write_set() -> Result<(), Fail> {
 #[test]
 fn what_is_not_written() -> Result<(), Fail> {
     let mut buffer = [9u8; 12];
-    check_eq(write(&[one(0, 0, 0, 5)?], &mut buffer), Err(RecordFault::BufferShort { needed: 13 }))?;
-    check_eq(write(&[one(8, 0, 0, 5)?], &mut buffer), Err(RecordFault::NoRun { item: 1 }))?;
-    check_eq(write(&[one(0, 1, 0, 5)?], &mut buffer), Err(RecordFault::NoRun { item: 1 }))?;
-    check_eq(write(&[one(0, 0, 8, 12)?, one(0, 0, 8, 13)?], &mut buffer), Err(RecordFault::NoRun { item: 2 }))?;
+    check_eq(
+        write(&[one(0, 0, 0, 5)?], &mut buffer),
+        Err(RecordFault::BufferShort { needed: 13 }),
+    )?;
+    check_eq(
+        write(&[one(8, 0, 0, 5)?], &mut buffer),
+        Err(RecordFault::NoRun { item: 1 }),
+    )?;
+    check_eq(
+        write(&[one(0, 1, 0, 5)?], &mut buffer),
+        Err(RecordFault::NoRun { item: 1 }),
+    )?;
+    check_eq(
+        write(&[one(0, 0, 8, 12)?, one(0, 0, 8, 13)?], &mut buffer),
+        Err(RecordFault::NoRun { item: 2 }),
+    )?;
     check_eq(buffer, [9u8; 12])
 }
 
@@ -66,6 +81,9 @@ fn played_over_a_board() -> Result<(), Fail> {
     let mut board = Board::zero();
     check_eq(play(&FIVE, &mut board), Ok(1))?;
     check_eq(board.value(0), Some(5))?;
-    check_eq(play(b"\x00", &mut board), Err(RecordFault::Malformed { item: 0 }))?;
+    check_eq(
+        play(b"\x00", &mut board),
+        Err(RecordFault::Malformed { item: 0 }),
+    )?;
     check_eq(board.value(0), Some(5))
 }

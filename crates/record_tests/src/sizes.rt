@@ -12,7 +12,10 @@ use tickets::WriteSet;
 
 // Eight pairs: the fields of the last ticket, each at 1.
 fn eight_pairs() -> Option<WriteSet> {
-    let mut set = WriteSet::one(Pair { object: 120, value: 1 })?;
+    let mut set = WriteSet::one(Pair {
+        object: 120,
+        value: 1,
+    })?;
     for object in 121..128 {
         set = set.with(Pair { object, value: 1 })?;
     }
@@ -33,5 +36,8 @@ fn the_longest_record(rt: LibcRuntime) -> Result<(), Fail> {
     let back = read(rt.alloc(), &buffer)?;
     check_eq(back.len(), 256)?;
     sets.push(NumberedSet { home: 7, s: 0, set })?;
-    check_eq(write(&sets, &mut buffer), Err(RecordFault::NoRun { item: 0 }))
+    check_eq(
+        write(&sets, &mut buffer),
+        Err(RecordFault::NoRun { item: 0 }),
+    )
 }
