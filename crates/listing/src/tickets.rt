@@ -11,6 +11,7 @@ use std::fmt;
 use tickets::Board;
 
 const TICKETS: usize = 16;
+
 const FIELDS: usize = 8;
 
 /// The value of a field of a ticket.
@@ -54,15 +55,33 @@ fn ticket_of(board: &Board, ticket: usize) -> Ticket
 fn put_front(text: &mut String, n: usize, ticket: Ticket) -> fmt::Result
     ensures bytes { λ r. ⌜ made r (λ _. string-bytes (now (text .exit)) ≡ string-bytes (now (text .entry)) ++ front-text n ticket) ⌝ }
 {
-    let Ticket { stage, pages, sheets, plates, .. } = ticket;
-    write!(text, "ticket {n}: stage {stage} pages {pages} sheets {sheets} plates {plates}")
+    let Ticket {
+        stage,
+        pages,
+        sheets,
+        plates,
+        ..
+    } = ticket;
+    write!(
+        text,
+        "ticket {n}: stage {stage} pages {pages} sheets {sheets} plates {plates}"
+    )
 }
 
 fn put_back(text: &mut String, ticket: Ticket) -> fmt::Result
     ensures bytes { λ r. ⌜ made r (λ _. string-bytes (now (text .exit)) ≡ string-bytes (now (text .entry)) ++ back-text ticket) ⌝ }
 {
-    let Ticket { fold, press, paper, waste, .. } = ticket;
-    writeln!(text, " fold {fold} press {press} paper {paper} waste {waste}")
+    let Ticket {
+        fold,
+        press,
+        paper,
+        waste,
+        ..
+    } = ticket;
+    writeln!(
+        text,
+        " fold {fold} press {press} paper {paper} waste {waste}"
+    )
 }
 
 fn put_ticket(text: &mut String, n: usize, ticket: Ticket) -> fmt::Result

@@ -47,8 +47,8 @@ pub fn read(heap: Global, bytes: &[u8]) -> Result<Vec<NumberedSet>, RecordFault>
     let count = reader.count()?;
     let mut sets = Vec::with_capacity(heap, count)?;
     for i in 0..count {
-        if let Some(item) = reader.item(i + 1) {
-            sets.push_reserved(item);
+        if let Some(set) = reader.item(i + 1) {
+            sets.push_reserved(set);
         }
     }
     Ok(sets)

@@ -12,6 +12,6 @@ returns c =
     let ps = joined pair-text (pairs (item .set)) in
     record {
       bytes =
-        added-twice (string-bytes (c .args .text .now)) (head-text (c .args .n) (item .home) (item .s)) (ps ++ 10 ∷ []) (c .in-Continue-put-head .ensures tt .bytes)
-        (added-twice (string-bytes (c .put-head .last .text)) ps (10 ∷ []) (c .in-Continue-put-pairs .ensures tt .bytes) (c .in-Continue-writeln .ensures tt .bytes));
+          added-twice (string-bytes (c .args .text .now)) (head-text (c .args .n) (item .home) (item .s)) (ps ++ 10 ∷ []) (c .in-Continue-put-head .ensures tt .bytes)
+          (added-twice (string-bytes (c .put-head .last .text)) ps (10 ∷ []) (c .in-Continue-put-pairs .ensures tt .bytes) (c .in-Continue-writeln .ensures tt .bytes));
     }

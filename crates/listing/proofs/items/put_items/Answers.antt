@@ -14,10 +14,10 @@ loop-i-again c =
     let its = items-in (read-from (c .args .reader .now)) in
     let i = c .loop-i .i in
     elim (c .match-item .came) [
-      in-Some·in-Continue-put-item w ↦
-        item-written its i (item-of (w .in-Some .item)) (string-bytes (c .loop-i .text)) (string-bytes (c .match-item .text)) _ (w .in-Some .ensures tt .answer)
-        (ap string-bytes (w .text-is) ∙ w .in-Continue-put-item .ensures tt .bytes) (c .loop-i .inv)
-    | in-rest w ↦ absurd (never-none {bs = read-from (c .args .reader .now)} i refl (w .in-rest .ensures tt .answer) (c .pre) (c .loop-i-test .taken))
+      | in-Some·in-Continue-put-item w ↦
+          item-written its i (item-of (w .in-Some .item)) (string-bytes (c .loop-i .text)) (string-bytes (c .match-item .text)) _ (w .in-Some .ensures tt .answer)
+          (ap string-bytes (w .text-is) ∙ w .in-Continue-put-item .ensures tt .bytes) (c .loop-i .inv)
+      | in-rest w ↦ absurd (never-none {bs = read-from (c .args .reader .now)} i refl (w .in-rest .ensures tt .answer) (c .pre) (c .loop-i-test .taken))
     ]
 
 pub returns : need.returns

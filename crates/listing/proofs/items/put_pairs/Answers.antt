@@ -15,10 +15,10 @@ loop-i-again c =
     let i = c .loop-i .i in
     let h : i < length ps = omega (arith, c .len-i-end .ensures .answer) in
     elim (c .match-pair .came) [
-      in-Some·in-Continue-put-pair w ↦
-        pairs-more ps i (pair-of (w .in-Some .pair)) (string-bytes (c .loop-i .text)) (string-bytes (c .args .text .now)) (string-bytes (c .match-pair .text)) h (w .in-Some .ensures tt .answer) (c .loop-i .inv)
-        (ap string-bytes (w .text-is) ∙ w .in-Continue-put-pair .ensures tt .bytes)
-    | in-rest w ↦ absurd (always-told ps i h (w .in-rest .ensures tt .answer))
+      | in-Some·in-Continue-put-pair w ↦
+          pairs-more ps i (pair-of (w .in-Some .pair)) (string-bytes (c .loop-i .text)) (string-bytes (c .args .text .now)) (string-bytes (c .match-pair .text)) h (w .in-Some .ensures tt .answer) (c .loop-i .inv)
+          (ap string-bytes (w .text-is) ∙ w .in-Continue-put-pair .ensures tt .bytes)
+      | in-rest w ↦ absurd (always-told ps i h (w .in-rest .ensures tt .answer))
     ]
 
 pub returns : need.returns

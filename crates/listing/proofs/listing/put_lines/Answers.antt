@@ -13,5 +13,5 @@ returns c =
     let same = ap (λ bs. before ++ items-text 1 (items-in bs)) (c .new-reader .ensures .answer) in
     record {
       bytes =
-        added-twice before (items-text 1 (items-in (c .args .bytes .now))) (tickets-text (values (c .args .board .now)) 0 16) (c .in-Continue-put-items .ensures tt .bytes ∙ same) (c .in-Continue-put-tickets .ensures tt .bytes);
+          added-twice before (items-text 1 (items-in (c .args .bytes .now))) (tickets-text (values (c .args .board .now)) 0 16) (c .in-Continue-put-items .ensures tt .bytes ∙ same) (c .in-Continue-put-tickets .ensures tt .bytes);
     }

@@ -13,10 +13,10 @@ loop-ticket-again c =
     let t = c .loop-ticket .ticket in
     let before = string-bytes (c .loop-ticket .text) in
     elim (c .if-used .came) [
-      then-used·in-Continue-put-ticket w ↦
-        ticket-written b t before (string-bytes (c .if-used .text)) _ (c .loop-ticket-test .taken) (w .if-used .ensures tt .answer)
-        (ap string-bytes (w .text-is) ∙ w .in-Continue-put-ticket .ensures tt .bytes ∙ ap (λ x. before ++ ticket-text t x) (w .ticket-of .ensures .answer)) (c .loop-ticket .inv)
-    | else-used w ↦ ticket-passed b t before (string-bytes (c .if-used .text)) _ (c .loop-ticket-test .taken) (w .if-used .ensures tt .answer) (ap string-bytes (w .text-is)) (c .loop-ticket .inv)
+      | then-used·in-Continue-put-ticket w ↦
+          ticket-written b t before (string-bytes (c .if-used .text)) _ (c .loop-ticket-test .taken) (w .if-used .ensures tt .answer)
+          (ap string-bytes (w .text-is) ∙ w .in-Continue-put-ticket .ensures tt .bytes ∙ ap (λ x. before ++ ticket-text t x) (w .ticket-of .ensures .answer)) (c .loop-ticket .inv)
+      | else-used w ↦ ticket-passed b t before (string-bytes (c .if-used .text)) _ (c .loop-ticket-test .taken) (w .if-used .ensures tt .answer) (ap string-bytes (w .text-is)) (c .loop-ticket .inv)
     ]
 
 pub returns : need.returns

@@ -25,7 +25,7 @@ loop-i-again c =
           let cap = ap vec-cap (w .sets-is) ∙ p .capacity in (
             omega (arith, c .loop-i .inv .0),
             omega (arith, c .loop-i .inv .1),
-            gather-next (items-in bs) i (w .in-Some .item) (vec-items (c .loop-i .sets)) (vec-items (c .match-item .sets)) (same-record i same (w .in-Some .ensures tt .answer)) (ap vec-items (w .sets-is) ∙ p .items) (c .loop-i .inv .2),
+            gather-next (items-in bs) i (w .in-Some .set) (vec-items (c .loop-i .sets)) (vec-items (c .match-item .sets)) (same-record i same (w .in-Some .ensures tt .answer)) (ap vec-items (w .sets-is) ∙ p .items) (c .loop-i .inv .2),
           )
       | in-rest w ↦ absurd (never-none i same (w .in-rest .ensures tt .answer) (items-counted (decoded bs) _ (c .in-Continue-count .ensures tt .answer ∙ ap check-answer same)) (c .loop-i-test .taken))
     ]
