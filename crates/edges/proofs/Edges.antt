@@ -95,12 +95,12 @@ lowest-found : (f : ℕ → Bool) (n m : ℕ) → 1 ≤ m → m ≤ n → f m �
 lowest-found f zero m l h e = absurd (omega arith)
 lowest-found f (suc n) m l h e =
     elim (cases-eq m (suc n)) [
-      inl q ↦
-        let r = here (lowest f n) n (f (suc n)) (lowest-at-most f n) (ap f (sym q) ∙ e) in
-        (r .0, (r .1 .0, omega (arith, r .1 .1)))
-    | inr d ↦
-        let r = lowest-found f n m l (omega arith) e in
-        (r .0, (ap (λ x. or-else x (cond (f (suc n)) (suc n) 0)) (r .1 .0), r .1 .1))
+      | inl q ↦
+          let r = here (lowest f n) n (f (suc n)) (lowest-at-most f n) (ap f (sym q) ∙ e) in
+          (r .0, (r .1 .0, omega (arith, r .1 .1)))
+      | inr d ↦
+          let r = lowest-found f n m l (omega arith) e in
+          (r .0, (ap (λ x. or-else x (cond (f (suc n)) (suc n) 0)) (r .1 .0), r .1 .1))
     ]
 
 clash-aborts : (p : Plain) (t m : ℕ) (b : Board) (u : Pairs) → OpenWith p t b u → is-empty u ≡ false → length (p .sets) ≡ 256 → up-to 256 m ≡ true → clashes (p .sets) (transaction p t .s) u m ≡ true → (n : ℕ) × ((answer (Commit t) p ≡ aborts n) × (n ≤ m))

@@ -5,13 +5,13 @@ use calls::Call;
 use copy_store::CopyStoreStore;
 use ledger::TransactionState;
 use machine::Reason;
+use machine::reason::ReasonDebug;
 use middleware::Answer;
 use middleware::Unrun;
 use middleware::run_queue;
 use shop::empty_bank;
 use std::error::AnyError;
 use version_store::VersionStoreStore;
-use machine::reason::ReasonDebug;
 
 const QUEUE: [Call; 19] = [
     Call::Begin(0),
