@@ -1,4 +1,6 @@
 // Answers to the lines of a script, printed into a buffer that the caller lends.
+#![tactic(auto)]
+
 pub mod answer;
 mod bytes;
 mod printing;

@@ -1,4 +1,6 @@
 // A bank of stores: a store's interface with a replica number in front.
+#![tactic(auto)]
+
 pub mod api;
 pub mod fault;
 pub mod single;

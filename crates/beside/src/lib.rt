@@ -1,4 +1,6 @@
 // Two banks side by side are a bank: the left one's replicas come first, then the right one's.
+#![tactic(auto)]
+
 ghost use Rattle.std.specs.Prelude.{◌≡◌, ◌++◌, length};
 ghost use Rattle.std.proofs.Common.{length-append, arith};
 ghost use Rattle.beside.specs.Sides.{side_of, renumbered};

@@ -1,4 +1,6 @@
 // Clients of a store and of a bank, written and proved once for every kind of either.
+#![tactic(auto)]
+
 mod bank_client;
 mod looks;
 pub mod race;

@@ -1,4 +1,6 @@
 // A store that keeps a whole board at each open place, and its sets of objects as marks.
+#![tactic(auto)]
+
 mod place;
 pub mod store;
 

@@ -1,4 +1,6 @@
 // The edges of the rules, as theorems about the definitions that the calls' contracts cite.
+#![tactic(auto)]
+
 ghost use Rattle.edges.specs.Edges.{Edges, Longest};
 
 use record_format::LONGEST;

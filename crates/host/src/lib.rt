@@ -1,4 +1,6 @@
 // The entry for a host in C: a script in, answers out. Nothing is kept between calls.
+#![tactic(auto)]
+
 ghost use Rattle.host.specs.Entry.{HostPromise};
 
 use shop_script::run_shop;

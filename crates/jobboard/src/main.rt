@@ -1,4 +1,6 @@
 // The job board as a program: a script on standard input, an answer a line on standard output.
+#![tactic(auto)]
+
 use answers::ANSWER_BYTES;
 use anyhow::anyhow;
 use lines::{SCRIPT_BYTES, SCRIPT_LINES, fits};

@@ -1,4 +1,6 @@
 // The plain board, the middleware over a bank of stores, and the law of whole queues: definitions, and the theorems about them.
+#![tactic(auto)]
+
 ghost use Rattle.law.specs.Clashes.{ClashAgrees, ClashIsSharing};
 ghost use Rattle.law.specs.Corollaries.{SnapshotIsolation, AbortsExactly, SameApplied, WholeReplica};
 ghost use Rattle.law.specs.Promise.{PlainQueue, EveryQueue};

@@ -1,4 +1,6 @@
 // What the middleware holds: its transactions and its numbered write sets, with the loops over them.
+#![tactic(auto)]
+
 pub mod applied;
 mod clash;
 pub mod numbered;

@@ -1,4 +1,6 @@
 // Runs into every limit of the board: all 256 numbers, all 512 transactions, fifteen at one home, and the edges beside them.
+#![tactic(auto)]
+
 use anyhow::anyhow;
 use calls::Call;
 use middleware::{Answer, Unrun, run_queue};

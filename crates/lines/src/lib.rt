@@ -1,4 +1,6 @@
 // A script cut into its lines, and a line into the call that it spells.
+#![tactic(auto)]
+
 pub mod limits;
 pub mod lines;
 mod numeral;

@@ -1,4 +1,6 @@
 // Opens the shop's bank, numbers write sets from two stations, and prints the run record of the live board: its bytes, and what reads back.
+#![tactic(auto)]
+
 ghost use Rattle.std.specs.Prelude.{◌≤◌, length, IfOk};
 
 use anyhow::anyhow;

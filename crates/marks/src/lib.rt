@@ -1,4 +1,6 @@
 // Sets of objects, a mark for each object, in words of 64 bits. Nothing else in the repository does bit work.
+#![tactic(auto)]
+
 pub mod marks;
 mod words;
 

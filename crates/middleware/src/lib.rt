@@ -1,4 +1,6 @@
 // The board: the calls that stations make, over any bank of stores, and the law of whole queues.
+#![tactic(auto)]
+
 pub mod answer;
 pub mod fault;
 pub mod middleware;

@@ -1,4 +1,6 @@
 // The run record: what a run of the middleware leaves behind for others to read, play and check.
+#![tactic(auto)]
+
 pub mod reads;
 
 pub use reads::{check, play, read};

@@ -122,8 +122,8 @@ pub found : (bs : List ℕ) (count n : ℕ) → Ok count ≡ count_of (decoded b
 found bs count n e some few =
     let w = whole bs count e in
     let long = w.long in
-    let f = found_from (items_in bs) n bs count 0 (first_body count) n w.all long (omega arith) some (omega (arith, w.count-is)) in
-    subst (λ (k : ℕ). Found bs (first_body k) (items_in bs) n n) (sym w.count-is) f
+    let f = found_from (items_in bs) n bs count 0 (first_body count) n w.all long (omega arith) some (omega (arith, w.count_is)) in
+    subst (λ (k : ℕ). Found bs (first_body k) (items_in bs) n n) (sym w.count_is) f
 
 -- ---- what stands at a number
 
@@ -158,7 +158,7 @@ no_span_unread bs n item e = sym (unread (decoded bs) e)
 pub no_span_past : (bs : List ℕ) (n count : ℕ) → Ok count ≡ count_of (decoded bs) → (n < 1) ⊎ ((1 ≤ n) × (count < n)) → None ≡ span_in bs n
 no_span_past bs n count e h =
     let w = whole bs count e in
-    let l = length-placed (first_body (length (items_in bs))) (items_in bs) ∙ w.count-is in
+    let l = length-placed (first_body (length (items_in bs))) (items_in bs) ∙ w.count_is in
     sym (ap (option_map span) (numbered_past (bodies_in bs) n (past l h)))
   where
     past : {m : ℕ} → length (bodies_in bs) ≡ m → (n < 1) ⊎ ((1 ≤ n) × (m < n)) → (n < 1) ⊎ ((1 ≤ n) × (length (bodies_in bs) < n))

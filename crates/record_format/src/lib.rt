@@ -1,4 +1,6 @@
 // The format of the run record, and the laws that every run and every record keep.
+#![tactic(auto)]
+
 ghost use Rattle.record_format.specs.Laws.{RoundTrips, SizeLaws, Examples};
 
 pub mod fault;

@@ -1,4 +1,6 @@
 // Reading the run record: its items one by one, and its bodies as parts of it.
+#![tactic(auto)]
+
 mod bytes;
 mod entry;
 mod items;

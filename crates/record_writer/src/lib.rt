@@ -1,4 +1,6 @@
 // Writing the run record into a buffer that the caller lends.
+#![tactic(auto)]
+
 mod bytes;
 mod parts;
 mod runs;

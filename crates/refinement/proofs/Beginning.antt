@@ -65,7 +65,7 @@ module _ (b : Machine) (fit : Fit b) (eight : length b.stores ≤ 8) where
 
     -- the place that both take
     pub same_place : picked first_of_sixteen (store_at w.bank k) ≡ p
-    same_place = ap (λ (σ : Store). first_of_sixteen (map is_open σ.places)) (store_is b.stores k) ∙ sym (vacant_is b.stores k l (fit.stores k l).least-places)
+    same_place = ap (λ (σ : Store). first_of_sixteen (map is_open σ.places)) (store_is b.stores k) ∙ sym (vacant_is b.stores k l (fit.stores k l).least_places)
 
     abbrev starts : Transaction
     starts = record { home = k; place = p; s = seen k; state = Open }

@@ -1,4 +1,6 @@
 // The middleware's machine over its stores is the plain board: the theorems that the public calls lean on.
+#![tactic(auto)]
+
 ghost use Rattle.refinement.specs.Places.{EveryPlace};
 ghost use Rattle.refinement.specs.Promise.{EveryQueue, OwnBoards};
 ghost use Rattle.refinement.specs.Refusals.{EveryOpeningStays, EveryRefusalStays};

@@ -1,4 +1,6 @@
 // Reads a record on standard input and prints its write sets, and the tickets that they leave.
+#![tactic(auto)]
+
 ghost use Rattle.std.specs.Prelude.{◌≡◌, ◌≤◌, length, IfOk};
 
 use anyhow::anyhow;

@@ -1,4 +1,6 @@
 // A script of calls, run over a board that it opens, and an answer a line.
+#![tactic(auto)]
+
 pub mod fault;
 pub mod line;
 mod numbers;

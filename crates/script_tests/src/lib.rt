@@ -1,4 +1,6 @@
 // Tests of whole scripts over the bank of a shop.
+#![tactic(auto)]
+
 #[cfg(test)]
 mod examples;
 #[cfg(test)]

@@ -1,4 +1,6 @@
 // The bank of a shop: four stations, with a version store, a copy store, a version store and a copy store.
+#![tactic(auto)]
+
 ghost use Rattle.std.specs.Prelude.{IfOk};
 ghost use Rattle.shop.specs.Shop.{EmptyPair, EmptyShop};
 

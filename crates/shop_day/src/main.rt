@@ -1,4 +1,6 @@
 // A day in a shop: stations change tickets through transactions that they hold; the tickets touched are printed from every station.
+#![tactic(auto)]
+
 use anyhow::anyhow;
 use banks::Bank;
 use job::{Field, Job, work, work_again, work_both};

@@ -1,4 +1,6 @@
 // One table of calls and answers for every kind of store, alone and inside a bank.
+#![tactic(auto)]
+
 #[cfg(test)]
 mod calls;
 #[cfg(test)]

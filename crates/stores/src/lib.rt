@@ -1,4 +1,6 @@
 // The local store that a station's copy lives in: one interface, by what a store means.
+#![tactic(auto)]
+
 pub mod api;
 pub mod fault;
 pub mod work;

@@ -1,4 +1,6 @@
 // Tickets: what a board holds, what a write set is, and what playing one does.
+#![tactic(auto)]
+
 pub mod board;
 pub mod laws;
 pub mod pair;

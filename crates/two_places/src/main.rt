@@ -1,4 +1,6 @@
 // Two places on each kind of store write the same object: one commits, and the other is refused.
+#![tactic(auto)]
+
 ghost use Rattle.std.specs.Prelude.{◌≡◌};
 ghost use Rattle.stores.specs.Faults.{number_of};
 

@@ -1,4 +1,6 @@
 // Opens a bank of version, copy, version and copy store, runs a queue of calls from all stations, and prints each answer.
+#![tactic(auto)]
+
 use anyhow::anyhow;
 use calls::Call;
 use ledger::TransactionState;

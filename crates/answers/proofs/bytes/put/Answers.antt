@@ -8,7 +8,7 @@ returns c =
     let b = c.args.buf.now in
     let at = c.args.at in
     let k : at + length xs - at ≡ length xs = omega arith in
-    let e = c.copy-from-slice.ensures.after in
+    let e = c.copy_from_slice.ensures.after in
     record {
       bytes = record {
         after = (λ i. take at b ++ (e i ++ drop (k i) (drop at b))) ∙ ap (λ l. take at b ++ (xs ++ l)) (drop-drop (length xs) at b);

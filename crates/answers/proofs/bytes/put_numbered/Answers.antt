@@ -3,4 +3,4 @@ use Rattle.answers.proofs.Writing.{one_write_after_another}
 use Rattle.answers.proofs.bytes.put_numbered.Goals as goal
 
 pub returns : goal.returns
-returns c = record { bytes = one_write_after_another (omega arith) c.put-middle.ensures.bytes c.put-decimal.ensures.bytes }
+returns c = record { bytes = one_write_after_another (omega arith) c.put-middle.ensures.bytes c.put_decimal.ensures.bytes }

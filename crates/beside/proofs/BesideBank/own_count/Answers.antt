@@ -7,7 +7,7 @@ returns-in-Left g c =
     let rs = g.R.Bank.stores c.args.self.now.right in
     let k = c.args.replica in
     let s = c.in-Left.ensures.answer in
-    record { answer = left_answer ls rs k s _ c.own-count.ensures.answer }
+    record { answer = left_answer ls rs k s _ c.own_count.ensures.answer }
 
 pub returns-in-Right : goal.returns-in-Right
 returns-in-Right g c =
@@ -16,4 +16,4 @@ returns-in-Right g c =
     let k = c.args.replica in
     let i = c.in-Right.there in
     let s = c.in-Right.ensures.answer in
-    record { answer = right_answer ls rs k i s _ c.under.ensures.answer c.own-count-in-Right.ensures.answer }
+    record { answer = right_answer ls rs k i s _ c.under.ensures.answer c.own_count-in-Right.ensures.answer }

@@ -5,11 +5,11 @@ use Rattle.clients.proofs.Pairs.{set_fits}
 use Rattle.clients.proofs.AtBank.{open_refused, open_written, open_never}
 use Rattle.clients.proofs.bank_client.open_with.Goals as goal
 
-pub returns-in-err-work : goal.returns-in-err-work
-returns-in-err-work g c =
+pub returns-in_err-work : goal.returns-in_err-work
+returns-in_err-work g c =
     let ms = g.B.Bank.stores c.args.bank.now in
-    let b = c.in-err-work.ensures in
-    let r = err_from_is_err_and c.from-residual.result c.from-residual.ensures.1 in
+    let b = c.in_err-work.ensures in
+    let r = err_from_is_err_and c.from_residual.result c.from_residual.ensures.1 in
     record {
       answer = r.1 ∙ ap (λ e. Err e) r.2 ∙ b.answer;
       after = open_refused ms _ c.args.replica c.args.place (pairs c.args.set.now) (set_fits c.args.set.now) b.after _ b.answer;
@@ -18,14 +18,14 @@ returns-in-err-work g c =
 pub returns-in-Ok : goal.returns-in-Ok
 returns-in-Ok g c =
     let ms = g.B.Bank.stores c.args.bank.now in
-    let b = c.in-ok-work.ensures in
+    let b = c.in_ok-work.ensures in
     record {
       answer = b.answer;
-      after = open_written ms _ c.args.replica c.args.place (pairs c.args.set.now) (set_fits c.args.set.now) b.after c.in-ok-work.work b.answer c.write-all.ensures.after;
+      after = open_written ms _ c.args.replica c.args.place (pairs c.args.set.now) (set_fits c.args.set.now) b.after c.in_ok-work.work b.answer c.write_all.ensures.after;
     }
 
 pub returns-in-Err : goal.returns-in-Err
 returns-in-Err g c =
     let ms = g.B.Bank.stores c.args.bank.now in
-    let b = c.in-ok-work.ensures in
-    absurd (open_never ms _ c.args.replica c.args.place (pairs c.args.set.now) (set_fits c.args.set.now) b.after c.in-ok-work.work b.answer _ c.in-Err.ensures.answer)
+    let b = c.in_ok-work.ensures in
+    absurd (open_never ms _ c.args.replica c.args.place (pairs c.args.set.now) (set_fits c.args.set.now) b.after c.in_ok-work.work b.answer _ c.in-Err.ensures.answer)

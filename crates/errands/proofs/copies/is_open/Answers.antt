@@ -9,4 +9,4 @@ use Rattle.errands.proofs.copies.is_open.Goals as goal
 pub returns : goal.returns
 returns g c =
     let p = c.args.place in
-    record { answer = c.unwrap-or.ensures ∙ ap (λ r. result_unwrap_or r false) c.is-open.ensures.answer ∙ asked_or (g.B.Bank.stores c.args.bank.now) c.args.replica (λ m. open_answer m p) false (λ (m : StoreModel). is_some (get_or m.places p None)) (open_or p) refl }
+    record { answer = c.unwrap_or.ensures ∙ ap (λ r. result_unwrap_or r false) c.is_open.ensures.answer ∙ asked_or (g.B.Bank.stores c.args.bank.now) c.args.replica (λ m. open_answer m p) false (λ (m : StoreModel). is_some (get_or m.places p None)) (open_or p) refl }

@@ -15,7 +15,7 @@ loop-object-preserved g c =
       length-set start at _ ∙ c.loop-object.invariant.0,
       below_more _ _
           (λ k h. let ne : k ≢ at = omega arith in get_or-set_other start at k _ 0 ne ∙ c.loop-object.invariant.1 k h)
-          (get_or-set_same start at _ 0 here ∙ c.value-at.ensures.answer),
+          (get_or-set_same start at _ 0 here ∙ c.value_at.ensures.answer),
     )
 
 pub returns : goal.returns

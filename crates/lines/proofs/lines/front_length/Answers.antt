@@ -4,14 +4,14 @@ use Rattle.lines.specs.Fronts.{inside}
 use Rattle.lines.proofs.Fronts.{passing_byte_is_in_the_front, front_stops_at_a_failing_byte, front_stops_at_the_end}
 use Rattle.lines.proofs.lines.front_length.Goals as goal
 
-pub returns-then-b-eq-END-OF-LINE : goal.returns-then-b-eq-END-OF-LINE
-returns-then-b-eq-END-OF-LINE c =
-    let ends = not_from_true _ (eq-eqb _ 10 c.if-b-eq-END-OF-LINE.true) in
+pub returns-then-b-eq-END_OF_LINE : goal.returns-then-b-eq-END_OF_LINE
+returns-then-b-eq-END_OF_LINE c =
+    let ends = not_from_true _ (eq-eqb _ 10 c.if-b-eq-END_OF_LINE.true) in
     record { answer = omega (arith, front_stops_at_a_failing_byte inside c.args.bytes.now c.loop-n.n (omega arith) ends) }
 
 pub loop-n-preserved : goal.loop-n-preserved
 loop-n-preserved c =
-    let goes_on = not_from_false _ (ne_eqb _ 10 c.if-b-eq-END-OF-LINE.false) in
+    let goes_on = not_from_false _ (ne_eqb _ 10 c.if-b-eq-END_OF_LINE.false) in
     omega (arith, passing_byte_is_in_the_front inside c.args.bytes.now c.loop-n.n (omega arith) goes_on)
 
 pub returns : goal.returns

@@ -16,23 +16,23 @@ returns-then-bytes-eq48 c = record {
       omega (arith, (spelled _ n h e).plain c.if-bytes-eq48.true)));
 }
 
-pub returns-in-err-value : goal.returns-in-err-value
-returns-in-err-value c = record {
-  answer = c.from-residual.ensures ∙ sym (nothing_is_read c.args.bytes.now (λ n h e.
-      c.in-err-value.ensures.answer (spelled _ n h e).all));
+pub returns-in_err-value : goal.returns-in_err-value
+returns-in_err-value c = record {
+  answer = c.from_residual.ensures ∙ sym (nothing_is_read c.args.bytes.now (λ n h e.
+      c.in_err-value.ensures.answer (spelled _ n h e).all));
 }
 
-pub returns-then-value-gt-MOST-NUMBER : goal.returns-then-value-gt-MOST-NUMBER
-returns-then-value-gt-MOST-NUMBER c = record {
+pub returns-then-value-gt-MOST_NUMBER : goal.returns-then-value-gt-MOST_NUMBER
+returns-then-value-gt-MOST_NUMBER c = record {
   answer = sym (nothing_is_read c.args.bytes.now (λ n h e.
-      omega (arith, (spelled _ n h e).reads, c.in-ok-value.ensures.answer.1)));
+      omega (arith, (spelled _ n h e).reads, c.in_ok-value.ensures.answer.1)));
 }
 
 pub returns : goal.returns
 returns c =
     let bs = c.args.bytes.now in
-    let v = c.in-ok-value.value in
-    let (all, is) = c.in-ok-value.ensures.answer in
+    let v = c.in_ok-value.value in
+    let (all, is) = c.in_ok-value.ensures.answer in
     let small : v < 2 ^ 32 = omega arith in
     let plain : get_or bs 0 0 ≡ 48 → length bs ≡ 1 = λ zeroed. elim c.else-len-gt1.branch [
       | else-len-gt1-via-then-len-gt1+else-bytes-eq48 w ↦ absurd (w.if-bytes-eq48.false zeroed)

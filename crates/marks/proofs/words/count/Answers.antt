@@ -11,8 +11,8 @@ pub loop-word-init : goal.loop-word-init
 unfolding count_below
 loop-word-init c = refl
 
-pub overflow-add-marks : goal.overflow-add-marks
-overflow-add-marks c =
+pub overflow_add-marks : goal.overflow_add-marks
+overflow_add-marks c =
     let ws = c.args.words.now in
     let q = c.loop-word.word-index in
     let so_far : c.loop-word.marks ≤ 64 * q = omega (arith, count_within (marked_in ws) (64 * q)) in

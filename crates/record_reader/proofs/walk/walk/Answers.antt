@@ -4,9 +4,9 @@ use Rattle.record_format.specs.Calls.{verdict_of}
 use Rattle.record_format.specs.Meaning.{item_of}
 use Rattle.record_reader.proofs.walk.walk.Goals as goal
 
-pub returns-in-default : goal.returns-in-default
-returns-in-default c =
-    let bad = rest_bad c.args.bytes.now c.from-count.result c.loop-i.i c.loop-i.at c.loop-i-test.true c.in-default.ensures.answer in
+pub returns-in_default : goal.returns-in_default
+returns-in_default c =
+    let bad = rest_bad c.args.bytes.now c.from-count.result c.loop-i.i c.loop-i.at c.loop-i-test.true c.in_default.ensures.answer in
     record { answer = ap verdict_of (sym (ap (tally c.loop-i.i) bad) ∙ c.loop-i.invariant.1) }
 
 pub loop-i-preserved : goal.loop-i-preserved

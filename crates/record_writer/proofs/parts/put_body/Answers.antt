@@ -5,12 +5,12 @@ use Rattle.record_format.proofs.Writing.{then, wrote_same}
 use Rattle.record_format.proofs.Lengths.{length-body}
 use Rattle.record_writer.proofs.parts.put_body.Goals as goal
 
-pub put-pairs-requires : goal.put-pairs-requires
-put-pairs-requires c =
-    let two = ap length c.to-be-bytes.ensures in
+pub put_pairs-requires : goal.put_pairs-requires
+put_pairs-requires c =
+    let two = ap length c.to_be_bytes.ensures in
     omega (arith, c.put-end.ensures.bytes.ends, length-body (item_of c.args.set.now), c.put-end.auto.buffer, c.requires)
 
 pub returns : goal.returns
 returns c = record {
-  bytes = then (omega (arith, length-body (item_of c.args.set.now), c.requires)) (wrote_same c.to-be-bytes.ensures c.put-end.ensures.bytes) c.put-pairs.ensures.bytes;
+  bytes = then (omega (arith, length-body (item_of c.args.set.now), c.requires)) (wrote_same c.to_be_bytes.ensures c.put-end.ensures.bytes) c.put_pairs.ensures.bytes;
 }

@@ -6,22 +6,22 @@ use Rattle.record_format.proofs.Writing.{wrote_nothing, wrote_same, wrote_moved}
 use Rattle.record_format.proofs.Lengths.{length-body, length-contents}
 use Rattle.record_format.proofs.Sets.{always_numbered, length-bodies_take, length-bodies_more, contents_next}
 use Rattle.record_writer.proofs.parts.put_contents.Goals as goal
-use Rattle.record_writer.proofs.parts.put_contents.Goals.{in-Some, in-default}
+use Rattle.record_writer.proofs.parts.put_contents.Goals.{in-Some, in_default}
 
 pub loop-i-init : goal.loop-i-init
 loop-i-init g c = (wrote_nothing c.args.buffer.now c.args.at, omega (arith, c.count-count.ensures.answer))
 
-pub overflow-cast-offset : goal.overflow-cast-offset
-overflow-cast-offset g c = omega (arith, c.loop-i.invariant.1, length-bodies_take c.loop-i.i (g.R.NumberedSets.items c.args.run.now), c.requires.1)
+pub overflow_cast-offset : goal.overflow_cast-offset
+overflow_cast-offset g c = omega (arith, c.loop-i.invariant.1, length-bodies_take c.loop-i.i (g.R.NumberedSets.items c.args.run.now), c.requires.run_bound)
 
 pub put-end-requires : goal.put-end-requires
 put-end-requires g c =
     let its = g.R.NumberedSets.items c.args.run.now in
     let some = length-take-le c.loop-i.i its (omega (arith, c.count-count.ensures.answer)) in
-    omega (arith, c.count-count.ensures.answer, c.loop-i.invariant.0.ends, length-contents (first_body (length its)) (take c.loop-i.i its), c.loop-i.auto.buffer, c.requires.0)
+    omega (arith, c.count-count.ensures.answer, c.loop-i.invariant.0.ends, length-contents (first_body (length its)) (take c.loop-i.i its), c.loop-i.auto.buffer, c.requires.run_in_bounds)
 
-pub overflow-add-offset-in-Some-2 : goal.overflow-add-offset-in-Some-2
-overflow-add-offset-in-Some-2 g c = omega (arith, c.loop-i.invariant.1, length-bodies_take c.loop-i.i (g.R.NumberedSets.items c.args.run.now), c.requires.1, c.len-pairs.ensures.bounds.1)
+pub overflow_add-offset-in-Some-2 : goal.overflow_add-offset-in-Some-2
+overflow_add-offset-in-Some-2 g c = omega (arith, c.loop-i.invariant.1, length-bodies_take c.loop-i.i (g.R.NumberedSets.items c.args.run.now), c.requires.run_bound, c.len-pairs.ensures.bounds.1)
 
 pub loop-i-preserved : goal.loop-i-preserved
 loop-i-preserved g c =
@@ -35,10 +35,10 @@ loop-i-preserved g c =
           let more = length-bodies_more its i x at in
           let size = length-body (item_of x) in
           let pairs = w.len-pairs.ensures.answer in (
-            wrote_moved w.buffer-is w.end-is (contents_next its i x at (first_body (length its)) w.len-pairs.result w.to-be-bytes.result h c.requires.0 pairs (w.to-be-bytes.ensures ∙ ap two c.loop-i.invariant.1) c.loop-i.invariant.0 w.put-end.ensures.bytes),
+            wrote_moved w.buffer-is w.end-is (contents_next its i x at (first_body (length its)) w.len-pairs.result w.to_be_bytes.result h c.requires.run_in_bounds pairs (w.to_be_bytes.ensures ∙ ap two c.loop-i.invariant.1) c.loop-i.invariant.0 w.put-end.ensures.bytes),
             omega (arith, w.offset-is, c.loop-i.invariant.1),
           )
-      | in-default w ↦ absurd (always_numbered its i h w.in-default.ensures.answer)
+      | in_default w ↦ absurd (always_numbered its i h w.in_default.ensures.answer)
     ]
 
 pub returns : goal.returns

@@ -2,7 +2,7 @@ use Rattle.std.proofs.Common.{◌≡◌, length, sym, ap, ◌∙◌, arith}
 use Rattle.tickets.specs.Meaning.{pairs, pair_of}
 use Rattle.record_format.proofs.Sets.{always_told, tops_next, tops_above, tops_end}
 use Rattle.record_writer.proofs.runs.within_tops.Goals as goal
-use Rattle.record_writer.proofs.runs.within_tops.Goals.{in-Some+else-pair-top, in-default}
+use Rattle.record_writer.proofs.runs.within_tops.Goals.{in-Some+else-pair-top, in_default}
 
 pub returns-then-pair-top : goal.returns-then-pair-top
 returns-then-pair-top c =
@@ -17,7 +17,7 @@ loop-i-preserved c =
       | in-Some+else-pair-top w ↦
           tops_next ps c.loop-i.i (pair_of w.in-Some.pair) (omega (arith, c.len-i-end.ensures.answer)) w.in-Some.ensures.answer w.top.result w.top.ensures.answer w.if-pair-top.false
           ∙ c.loop-i.invariant
-      | in-default w ↦ absurd (always_told ps c.loop-i.i (omega (arith, c.len-i-end.ensures.answer)) w.in-default.ensures.answer)
+      | in_default w ↦ absurd (always_told ps c.loop-i.i (omega (arith, c.len-i-end.ensures.answer)) w.in_default.ensures.answer)
     ]
 
 pub returns : goal.returns

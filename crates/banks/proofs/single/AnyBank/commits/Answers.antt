@@ -2,16 +2,16 @@ use Rattle.std.proofs.Common.{Ok, refl, ap}
 use Rattle.banks.proofs.One.{only_answered, none_answer}
 use Rattle.banks.proofs.single.AnyBank.commits.Goals as goal
 
-pub returns-in-err-only : goal.returns-in-err-only
-returns-in-err-only g c =
+pub returns-in_err-only : goal.returns-in_err-only
+returns-in_err-only g c =
     let m = g.S.Store.meaning c.args.self.now in
     let k = c.args.replica in
-    let z = c.in-err-only.ensures.answer in
-    record { answer = none_answer m k z _ c.from-residual.ensures.1 }
+    let z = c.in_err-only.ensures.answer in
+    record { answer = none_answer m k z _ c.from_residual.ensures.1 }
 
 pub returns : goal.returns
 returns g c =
     let m = g.S.Store.meaning c.args.self.now in
     let k = c.args.replica in
-    let z = c.in-ok-only.ensures.answer in
+    let z = c.in_ok-only.ensures.answer in
     record { answer = only_answered m k z _ refl (ap (λ x. Ok x) c.commits.ensures.answer) }

@@ -15,5 +15,5 @@ returns c =
     let own = own_of x in
     let goal : ℕ → ℕ = λ k. or_else (own k) (get_or b k 0) in
     let rest = passes (λ v. v) goal 0 b now c.loop-object.from 128 c.loop-object.invariant.1
-    (λ k p h. sym (ap (λ m. or_else (cond m (Some (get_or x.own k 0)) None) (get_or b k 0)) (c.in-default.ensures.lowest k p))) c.loop-object.invariant.0 in
+    (λ k p h. sym (ap (λ m. or_else (cond m (Some (get_or x.own k 0)) None) (get_or b k 0)) (c.in_default.ensures.lowest k p))) c.loop-object.invariant.0 in
     record { after = sym (map-id now) ∙ ends (λ v. v) goal 0 b now 128 (played own b) 0 rest (omega arith) (length-played own b) (get_or-played own b) }

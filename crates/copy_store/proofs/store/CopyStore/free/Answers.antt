@@ -4,11 +4,11 @@ use Rattle.copy_store.specs.Kept.{few_with}
 use Rattle.copy_store.proofs.Seated.{new_seat}
 use Rattle.copy_store.proofs.store.CopyStore.free.Goals as goal
 
-pub invariant-of-self : goal.invariant-of-self
-invariant-of-self c =
+pub invariant_of-self : goal.invariant_of-self
+invariant_of-self c =
     let s = c.args.self.now in
     let p = c.args.place in
-    (s.whole, (length-set s.places p None ∙ s.sixteen, (s.within, (few_with s.places p None s.few (omega arith), tt))))
+    record { whole = s.whole; sixteen = length-set s.places p None ∙ s.sixteen; within = s.within; few = few_with s.places p None s.few (omega arith) }
 
 pub returns : goal.returns
 returns c = record { after = new_seat c.args.self.now c.args.place None }

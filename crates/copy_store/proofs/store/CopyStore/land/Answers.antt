@@ -9,8 +9,8 @@ use Rattle.copy_store.specs.Kept.{Few, few_with, few_overtaken}
 use Rattle.copy_store.proofs.Seated.{the_seat, same_seat}
 use Rattle.copy_store.proofs.store.CopyStore.land.Goals as goal
 
-pub invariant-of-self : goal.invariant-of-self
-invariant-of-self c =
+pub invariant_of-self : goal.invariant_of-self
+invariant_of-self c =
     let s = c.args.self.now in
     let p = c.args.place in
     let seen = set s.places p (get_or s.places p None) in
@@ -20,7 +20,7 @@ invariant-of-self c =
     let whole : length c.play.new.board ≡ 128 = omega arith in
     let sixteen : length after ≡ 16 = omega arith in
     let within : s.commits + 1 ≤ 65535 = omega arith in
-    (whole, (length-set after p None ∙ sixteen, (within, (few_with after p None few (omega arith), tt))))
+    record { whole = whole; sixteen = length-set after p None ∙ sixteen; within = within; few = few_with after p None few (omega arith) }
 
 pub returns-in-Some : goal.returns-in-Some
 returns-in-Some c =
@@ -38,9 +38,9 @@ returns-in-Some c =
           ∙ ap (λ r. leaves r (landed m p) m) (sym (the_seat s p _ held c.requires.0 c.in-Some.is));
     }
 
-pub returns-in-default : goal.returns-in-default
-returns-in-default c =
+pub returns-in_default : goal.returns-in_default
+returns-in_default c =
     let s = c.args.self.now in
     let m = meaning_of s in
     let p = c.args.place in
-    record { after = same_seat s p ∙ ap (λ r. leaves r (landed m p) m) (sym (the_seat s p _ held c.requires.0 c.in-default.is)) }
+    record { after = same_seat s p ∙ ap (λ r. leaves r (landed m p) m) (sym (the_seat s p _ held c.requires.0 c.in_default.is)) }

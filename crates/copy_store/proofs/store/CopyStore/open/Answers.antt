@@ -6,13 +6,13 @@ use Rattle.copy_store.specs.Kept.{few_with, none_at_begin}
 use Rattle.copy_store.proofs.Seated.{new_seat}
 use Rattle.copy_store.proofs.store.CopyStore.open.Goals as goal
 
-pub invariant-of-self : goal.invariant-of-self
-invariant-of-self c =
+pub invariant_of-self : goal.invariant_of-self
+invariant_of-self c =
     let s = c.args.self.now in
     let p = c.args.place in
     let new = c.on.result in
     let none = ap own_count c.on.ensures.answer ∙ none_at_begin s.board in
-    (s.whole, (length-set s.places p (Some new) ∙ s.sixteen, (s.within, (few_with s.places p (Some new) s.few (omega (arith, none)), tt))))
+    record { whole = s.whole; sixteen = length-set s.places p (Some new) ∙ s.sixteen; within = s.within; few = few_with s.places p (Some new) s.few (omega (arith, none)) }
 
 pub returns : goal.returns
 returns c =

@@ -4,16 +4,16 @@ use Rattle.ledger.specs.Words.{tally}
 use Rattle.ledger.specs.Transactions.{busy_at}
 use Rattle.ledger.proofs.Upward.{tally_yes, tally_not, tally_all}
 use Rattle.ledger.proofs.transactions.methods.busy_among.Goals as goal
-use Rattle.ledger.proofs.transactions.methods.busy_among.Goals.{then-busy-at, else-busy-at}
+use Rattle.ledger.proofs.transactions.methods.busy_among.Goals.{then-busy_at, else-busy_at}
 
 pub loop-x-preserved : goal.loop-x-preserved
 loop-x-preserved c =
     let f = busy_at c.args.replica in
     let xs = c.args.txns.now in
     let i = c.loop-x.x-index in
-    elim c.if-busy-at.branch [
-      | then-busy-at w ↦ let m = tally_yes f xs i _ c.loop-x-test.true (sym c.busy-at.ensures.answer ∙ w.if-busy-at.true) in (omega (arith, w.busy-is), omega (arith, w.busy-is))
-      | else-busy-at w ↦ let m = tally_not f xs i _ c.loop-x-test.true (sym c.busy-at.ensures.answer ∙ w.if-busy-at.false) in (omega (arith, w.busy-is), omega (arith, w.busy-is))
+    elim c.if-busy_at.branch [
+      | then-busy_at w ↦ let m = tally_yes f xs i _ c.loop-x-test.true (sym c.busy_at.ensures.answer ∙ w.if-busy_at.true) in (omega (arith, w.busy-is), omega (arith, w.busy-is))
+      | else-busy_at w ↦ let m = tally_not f xs i _ c.loop-x-test.true (sym c.busy_at.ensures.answer ∙ w.if-busy_at.false) in (omega (arith, w.busy-is), omega (arith, w.busy-is))
     ]
 
 pub returns : goal.returns

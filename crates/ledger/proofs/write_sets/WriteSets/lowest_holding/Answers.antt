@@ -11,5 +11,5 @@ returns c =
     let u = pairs c.args.set.now in
     let k = c.args.replica in
     let last : c.min-last.result ≡ min (c.args.n - 1) (length us) = omega (arith, length-sets c.args.self.now) in
-    let told : c.lowest-holding-among.result ≡ lowest_holding (map set_of c.deref.result.now) k c.min-last.result u = c.lowest-holding-among.ensures.answer in
+    let told : c.lowest_holding_among.result ≡ lowest_holding (map set_of c.deref.result.now) k c.min-last.result u = c.lowest_holding_among.ensures.answer in
     record { answer = told ∙ (λ i. lowest_holding (map set_of (c.deref.ensures.value i)) k (last i) u) ∙ none_holds_past us k (c.args.n - 1) u }

@@ -9,5 +9,5 @@ pub returns : goal.returns
 unfolding lowest_unapplied
 returns c =
     let us = sets_of c.args.self.now in
-    let told : c.lowest-unapplied-among.result ≡ lowest_unapplied us c.args.replica = c.lowest-unapplied-among.ensures.answer ∙ ap (λ xs. lowest_unapplied (map set_of xs) c.args.replica) c.deref.ensures.value in
+    let told : c.lowest_unapplied_among.result ≡ lowest_unapplied us c.args.replica = c.lowest_unapplied_among.ensures.answer ∙ ap (λ xs. lowest_unapplied (map set_of xs) c.args.replica) c.deref.ensures.value in
     record { answer = told; given = subst (λ (o : Option ℕ). IfSome o (λ n. up_to (length us) n ≡ true)) (sym told) (lowest_given (unapplied_at us c.args.replica) (length us)) }

@@ -8,9 +8,9 @@ use Rattle.ledger.proofs.write_sets.WriteSets.mark.Goals as goal
 
 pub returns-then-i-len : goal.returns-then-i-len
 returns-then-i-len c =
-    let x = c.index-mut.result.now in
+    let x = c.index_mut.result.now in
     let marked : List Bool → SetModel = λ at. record { home = x.home; s = x.s; transaction = x.transaction; pairs = pairs x.set; applied = at } in
-    record { after = mark_item (vec_items c.args.self.now.items) c.args.n _ c.args.replica x _ c.saturating-sub-i.ensures (omega (arith, c.args.self.now.items.ok.0)) c.index-mut.ensures.value (ap marked c.mark.ensures.after) }
+    record { after = mark_item (vec_items c.args.self.now.items) c.args.n _ c.args.replica x _ c.saturating_sub-i.ensures (omega (arith, c.args.self.now.items.ok.0)) c.index_mut.ensures.value (ap marked c.mark.ensures.after) }
 
 pub returns-else-i-len : goal.returns-else-i-len
 returns-else-i-len c =

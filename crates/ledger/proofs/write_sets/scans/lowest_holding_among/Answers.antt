@@ -9,18 +9,18 @@ use Rattle.ledger.proofs.write_sets.scans.lowest_holding_among.Goals as goal
 pub loop-i-init : goal.loop-i-init
 loop-i-init c = lowest_none _
 
-pub returns-then-holds-back : goal.returns-then-holds-back
+pub returns-then-holds_back : goal.returns-then-holds_back
 unfolding lowest_holding
-returns-then-holds-back c =
+returns-then-holds_back c =
     let u = pairs c.args.set.now in
-    let is = item_passes (holds_back c.args.replica u) c.args.sets.now c.loop-i.i c.index-sets-i.result _ (omega arith) c.index-sets-i.is c.holds-back.ensures.answer in
-    record { answer = sym (found_some (holds_back_at (map set_of c.args.sets.now) c.args.replica u) c.loop-i.i c.args.last c.loop-i-test.true (is ∙ c.if-holds-back.true) c.loop-i.invariant) }
+    let is = item_passes (holds_back c.args.replica u) c.args.sets.now c.loop-i.i c.index-sets-i.result _ (omega arith) c.index-sets-i.is c.holds_back.ensures.answer in
+    record { answer = sym (found_some (holds_back_at (map set_of c.args.sets.now) c.args.replica u) c.loop-i.i c.args.last c.loop-i-test.true (is ∙ c.if-holds_back.true) c.loop-i.invariant) }
 
 pub loop-i-preserved : goal.loop-i-preserved
 loop-i-preserved c =
     let u = pairs c.args.set.now in
-    let is = item_passes (holds_back c.args.replica u) c.args.sets.now c.loop-i.i c.index-sets-i.result _ (omega arith) c.index-sets-i.is c.holds-back.ensures.answer in
-    lowest_more (holds_back_at (map set_of c.args.sets.now) c.args.replica u) c.loop-i.i (is ∙ c.if-holds-back.false) c.loop-i.invariant
+    let is = item_passes (holds_back c.args.replica u) c.args.sets.now c.loop-i.i c.index-sets-i.result _ (omega arith) c.index-sets-i.is c.holds_back.ensures.answer in
+    lowest_more (holds_back_at (map set_of c.args.sets.now) c.args.replica u) c.loop-i.i (is ∙ c.if-holds_back.false) c.loop-i.invariant
 
 pub returns : goal.returns
 unfolding lowest_holding

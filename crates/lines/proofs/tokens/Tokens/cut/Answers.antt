@@ -7,8 +7,8 @@ pub returns : goal.returns
 returns c =
     let line = c.args.self.now.line.now in
     let at = c.args.self.now.at in
-    let token = c.in-ok-token.ensures in
-    let o = Some (piece c.in-ok-token.token) in
+    let token = c.in_ok-token.ensures in
+    let o = Some (piece c.in_ok-token.token) in
     let wide = c.width.ensures.answer in
     record {
       answer = token.answer;

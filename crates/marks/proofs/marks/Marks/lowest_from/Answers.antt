@@ -10,9 +10,9 @@ returns c =
     let j = c.args.object in
     let objects : 64 * length m.words ≡ 128 = omega arith in
     let words = sym (in_its_words m (omega arith)) in
-    let lowest : Lowest (marked m) j c.lowest-from.result = subst (λ f. Lowest f j c.lowest-from.result) words c.lowest-from.ensures.lowest in
+    let lowest : Lowest (marked m) j c.lowest_from.result = subst (λ f. Lowest f j c.lowest_from.result) words c.lowest_from.ensures.lowest in
     record {
-      answer = c.lowest-from.ensures.answer ∙ (λ i. lowest_from (words i) j (objects i - j));
+      answer = c.lowest_from.ensures.answer ∙ (λ i. lowest_from (words i) j (objects i - j));
       lowest = lowest;
-      within = found_within m j c.lowest-from.result lowest;
+      within = found_within m j c.lowest_from.result lowest;
     }

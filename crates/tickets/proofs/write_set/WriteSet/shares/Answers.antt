@@ -11,12 +11,12 @@ returns c =
     let e = no_pair w c.loop-i.i c.loop-i-test.false in
     record { answer = sym (ap (λ (ps : Pairs). shares ps (pairs c.args.other.now)) e) ∙ c.loop-i.invariant }
 
-pub returns-then-is-some : goal.returns-then-is-some
-returns-then-is-some c =
+pub returns-then-is_some : goal.returns-then-is_some
+returns-then-is_some c =
     let w = c.args.self.now in
     let qs = pairs c.args.other.now in
     let e = next_pair w c.loop-i.i c.loop-i-test.true in
-    let found = ap is_some (sym c.lookup.ensures.answer) ∙ sym c.if-is-some.ensures in
+    let found = ap is_some (sym c.lookup.ensures.answer) ∙ sym c.if-is_some.ensures in
     record { answer = sym (sym c.loop-i.invariant ∙ ap (λ (ps : Pairs). shares ps qs) e ∙ or_left _ _ found) }
 
 pub loop-i-preserved : goal.loop-i-preserved
@@ -24,5 +24,5 @@ loop-i-preserved c =
     let w = c.args.self.now in
     let qs = pairs c.args.other.now in
     let e = next_pair w c.loop-i.i c.loop-i-test.true in
-    let absent = ap is_some (sym c.lookup.ensures.answer) ∙ sym c.if-is-some.ensures in
+    let absent = ap is_some (sym c.lookup.ensures.answer) ∙ sym c.if-is_some.ensures in
     sym (ap (λ (ps : Pairs). shares ps qs) e ∙ ap (λ b. b || shares (drop (c.loop-i.i + 1) (pairs w)) qs) absent) ∙ c.loop-i.invariant

@@ -4,14 +4,14 @@ use Rattle.versions.proofs.Chained.{no_link}
 use Rattle.versions.proofs.Links.{chain_none}
 use Rattle.versions.proofs.chains.Chains.new.Goals as goal
 
-pub invariant-of-result : goal.invariant-of-result
+pub invariant_of-result : goal.invariant_of-result
 unfolding falling
-invariant-of-result c =
-    let p = c.in-ok-pool.ensures.made in
-    (search rules, (refl, (omega (arith, p), ((λ j. ap (λ l. before l (vec_len c.in-ok-pool.pool)) (no_link 128 j)), (ap (λ l. falling (reverse l)) p.0, tt)))))
+invariant_of-result c =
+    let p = c.in_ok-pool.ensures.made in
+    (search rules, (refl, (omega (arith, p), ((λ j. ap (λ l. before l (vec_len c.in_ok-pool.pool)) (no_link 128 j)), (ap (λ l. falling (reverse l)) p.0, tt)))))
 
 pub returns : goal.returns
 returns c =
-    let p = c.in-ok-pool.ensures in
-    let pool = reverse (vec_items c.in-ok-pool.pool) in
+    let p = c.in_ok-pool.ensures in
+    let pool = reverse (vec_items c.in_ok-pool.pool) in
     ((λ i k. (ap (chain (get_or c.args.start k 0) pool) (no_link 128 k) ∙ chain_none (get_or c.args.start k 0) pool) i), p.len)

@@ -29,4 +29,4 @@ returns c =
     let s = c.args.self.now in
     let x = get_or s.start c.args.object 0 in
     let pool = reverse (vec_items s.pool) in
-    sym (ap (λ l. seen (chain x pool l) c.args.count) c.in-default.is ∙ ap (λ h. seen h c.args.count) (chain_none x pool) ∙ seen_first x c.args.count) ∙ c.loop-link.invariant.1
+    sym (ap (λ l. seen (chain x pool l) c.args.count) c.in_default.is ∙ ap (λ h. seen h c.args.count) (chain_none x pool) ∙ seen_first x c.args.count) ∙ c.loop-link.invariant.1

@@ -14,4 +14,4 @@ returns-then-place-ge-PLACES c = record { answer = sym (no_seat c.args.self.now 
 pub returns : goal.returns
 returns c =
     let seat = the_seat c.args.self.now c.args.place _ (λ o. Ok (is_some o)) c.if-place-ge-PLACES.false refl in
-    record { answer = ap (λ b. Ok b) (c.is-some.ensures ∙ alike _) ∙ sym seat }
+    record { answer = ap (λ b. Ok b) (c.is_some.ensures ∙ alike _) ∙ sym seat }

@@ -9,13 +9,13 @@ use Rattle.copy_store.specs.Kept.{few_with}
 use Rattle.copy_store.proofs.Seated.{no_seat, the_seat, new_seat, same_seat}
 use Rattle.copy_store.proofs.store.calls.CopyStoreStore.write.Goals as goal
 
-pub invariant-of-self : goal.invariant-of-self
-invariant-of-self c =
+pub invariant_of-self : goal.invariant_of-self
+invariant_of-self c =
     let s = c.args.self.now in
     let p = c.args.place in
     let new = Some c.write.new.self in
     let few = c.write.ensures.few (subst (λ o. own_writes o ≤ 8) c.in-Some.is (s.few p)) in
-    (s.whole, (length-set s.places p new ∙ s.sixteen, (s.within, (few_with s.places p new s.few few, tt))))
+    record { whole = s.whole; sixteen = length-set s.places p new ∙ s.sixteen; within = s.within; few = few_with s.places p new s.few few }
 
 pub returns-then-place-ge-PLACES : goal.returns-then-place-ge-PLACES
 returns-then-place-ge-PLACES c =
