@@ -7,26 +7,26 @@ use Rattle.machine.proofs.Drained.{drained_end, drained_none, drained_more, drai
 use Rattle.engine.specs.Seen.{seen}
 use Rattle.engine.proofs.engine.Engine.drain_at.Goals as goal
 
-pub returns-in-default : goal.returns-in-default
-returns-in-default g c =
+pub returns-in_default : goal.returns-in_default
+returns-in_default g c =
     let b = seen g.B.Bank.stores c.loop-made.self in
-    let none : lowest_unapplied b.sets c.args.replica ≡ None = sym c.lowest-unapplied.ensures.answer ∙ c.in-default.is in
+    let none : lowest_unapplied b.sets c.args.replica ≡ None = sym c.lowest_unapplied.ensures.answer ∙ c.in_default.is in
     let whole = c.loop-made.invariant ∙ drained_none c.args.replica c.args.m c.loop-made.made b c.loop-made-test.true none in
     record { answer = sym (ap (λ (o : Came ℕ). o.answer) whole); after = sym (ap (λ (o : Came ℕ). o.after) whole) }
 
-pub returns-in-err-play : goal.returns-in-err-play
-returns-in-err-play g c =
+pub returns-in_err-play : goal.returns-in_err-play
+returns-in_err-play g c =
     let b = seen g.B.Bank.stores c.loop-made.self in
-    let some : lowest_unapplied b.sets c.args.replica ≡ Some c.in-Some.n = sym c.lowest-unapplied.ensures.answer ∙ c.in-Some.is in
-    let whole = c.loop-made.invariant ∙ drained_err c.args.replica c.args.m c.loop-made.made b c.loop-made-test.true c.in-Some.n some _ _ c.play.ensures.answer c.play.ensures.after _ c.in-err-play.was in
-    let p = err_from_is_err_and c.from-residual.result c.from-residual.ensures.1 in
+    let some : lowest_unapplied b.sets c.args.replica ≡ Some c.in-Some.n = sym c.lowest_unapplied.ensures.answer ∙ c.in-Some.is in
+    let whole = c.loop-made.invariant ∙ drained_err c.args.replica c.args.m c.loop-made.made b c.loop-made-test.true c.in-Some.n some _ _ c.play.ensures.answer c.play.ensures.after _ c.in_err-play.was in
+    let p = err_from_is_err_and c.from_residual.result c.from_residual.ensures.1 in
     record { answer = p.1 ∙ ap Err p.2 ∙ sym (ap (λ (o : Came ℕ). o.answer) whole); after = sym (ap (λ (o : Came ℕ). o.after) whole) }
 
 pub loop-made-preserved : goal.loop-made-preserved
 loop-made-preserved g c =
     let b = seen g.B.Bank.stores c.loop-made.self in
-    let some : lowest_unapplied b.sets c.args.replica ≡ Some c.in-Some.n = sym c.lowest-unapplied.ensures.answer ∙ c.in-Some.is in
-    c.loop-made.invariant ∙ drained_more c.args.replica c.args.m c.loop-made.made b c.loop-made-test.true c.in-Some.n some _ _ c.play.ensures.answer c.play.ensures.after _ c.in-ok-play.was
+    let some : lowest_unapplied b.sets c.args.replica ≡ Some c.in-Some.n = sym c.lowest_unapplied.ensures.answer ∙ c.in-Some.is in
+    c.loop-made.invariant ∙ drained_more c.args.replica c.args.m c.loop-made.made b c.loop-made-test.true c.in-Some.n some _ _ c.play.ensures.answer c.play.ensures.after _ c.in_ok-play.was
 
 pub returns : goal.returns
 returns g c =

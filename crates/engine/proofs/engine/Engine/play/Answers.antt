@@ -9,11 +9,11 @@ use Rattle.engine.proofs.engine.Engine.play.Goals as goal
 pub returns-then-x-replica : goal.returns-then-x-replica
 returns-then-x-replica g c =
     let b = seen g.B.Bank.stores c.args.self.now in
-    let all = plays_home b c.args.replica c.args.n c.requires (set_of c.in-ok-x.x) c.in-ok-x.ensures.answer c.if-x-replica.true in
-    record { answer = c.play-home.ensures.answer ∙ ap (λ (o : Came (Unit {0})). o.answer) all; after = c.play-home.ensures.after ∙ ap (λ (o : Came (Unit {0})). o.after) all }
+    let all = plays_home b c.args.replica c.args.n c.requires (set_of c.in_ok-x.x) c.in_ok-x.ensures.answer c.if-x-replica.true in
+    record { answer = c.play_home.ensures.answer ∙ ap (λ (o : Came (Unit {0})). o.answer) all; after = c.play_home.ensures.after ∙ ap (λ (o : Came (Unit {0})). o.after) all }
 
 pub returns : goal.returns
 returns g c =
     let b = seen g.B.Bank.stores c.args.self.now in
-    let all = plays_away b c.args.replica c.args.n c.requires (set_of c.in-ok-x.x) c.in-ok-x.ensures.answer c.if-x-replica.false in
-    record { answer = c.play-away.ensures.answer ∙ ap (λ (o : Came (Unit {0})). o.answer) all; after = c.play-away.ensures.after ∙ ap (λ (o : Came (Unit {0})). o.after) all }
+    let all = plays_away b c.args.replica c.args.n c.requires (set_of c.in_ok-x.x) c.in_ok-x.ensures.answer c.if-x-replica.false in
+    record { answer = c.play_away.ensures.answer ∙ ap (λ (o : Came (Unit {0})). o.answer) all; after = c.play_away.ensures.after ∙ ap (λ (o : Came (Unit {0})). o.after) all }

@@ -3,17 +3,17 @@ use Rattle.std.proofs.Common.{rules}
 use Rattle.machine.specs.Opening.{copy_fits}
 use Rattle.engine.proofs.engine.opens.copy_fits.Goals as goal
 
-pub returns-then-is-used : goal.returns-then-is-used
+pub returns-then-is_used : goal.returns-then-is_used
 unfolding copy_fits
-returns-then-is-used g c = search rules
+returns-then-is_used g c = search rules
 
 pub returns-in-Some : goal.returns-in-Some
 unfolding copy_fits
 returns-in-Some g c = search rules
 
-pub returns-in-Some-lowest-unlike : goal.returns-in-Some-lowest-unlike
+pub returns-in-Some-lowest_unlike : goal.returns-in-Some-lowest_unlike
 unfolding copy_fits
-returns-in-Some-lowest-unlike g c = search rules
+returns-in-Some-lowest_unlike g c = search rules
 
 pub returns : goal.returns
 unfolding copy_fits
