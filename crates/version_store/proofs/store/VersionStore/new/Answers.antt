@@ -7,6 +7,6 @@ pub returns : goal.returns
 returns c =
     let whole : length c.args.values ≡ 128 = search rules in
     record {
-      answer = ap (λ h. store_over h (replicate 16 None)) c.in-ok-history.ensures.answer
+      answer = ap (λ h. store_over h (replicate 16 None)) c.in_ok-history.ensures.answer
           ∙ ap (λ b. record { board = b; commits = 0; most = 256; places = replicate 16 None }) (board_started c.args.values whole);
     }

@@ -7,8 +7,14 @@ use Rattle.versions.proofs.chains.Chains.new.Goals as goal
 pub invariant_of-result : goal.invariant_of-result
 unfolding falling
 invariant_of-result c =
-    let p = c.in_ok-pool.ensures.made in
-    (search rules, (refl, (omega (arith, p), ((λ j. ap (λ l. before l (vec_len c.in_ok-pool.pool)) (no_link 128 j)), (ap (λ l. falling (reverse l)) p.0, tt)))))
+    let p = c.in_ok-pool.ensures in
+    record {
+      whole = search rules;
+      heads = refl;
+      room = omega (arith, p.capacity);
+      linked = λ j. ap (λ l. before l (vec_len c.in_ok-pool.pool)) (no_link 128 j);
+      falls = ap (λ l. falling (reverse l)) p.items;
+    }
 
 pub returns : goal.returns
 returns c =

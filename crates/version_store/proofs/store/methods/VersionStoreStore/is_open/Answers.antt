@@ -16,4 +16,4 @@ pub returns : goal.returns
 returns c =
     let s = c.args.self.now in
     let e = seated s c.args.place (λ o. Ok (is_some o)) _ _ c.if-place-ge-PLACES.false refl in
-    record { answer = ap (λ b. Ok b) (c.is-some.ensures ∙ sym (alike (history_of s.history) _)) ∙ sym e }
+    record { answer = ap (λ b. Ok b) (c.is_some.ensures ∙ sym (alike (history_of s.history) _)) ∙ sym e }
