@@ -8,16 +8,16 @@ ghost use Rattle.record_reader.specs.Readers.{read_from};
 ghost use Rattle.listing.specs.Listing.{pair_text, head_text, item_text, items_text};
 
 use record::{NumberedSet, Reader};
-use std::fmt;
+use std::alloc::AllocError;
 use tickets::WriteSet;
 
-fn put_pair(text: &mut String, object: usize, value: u32) -> fmt::Result
+fn put_pair(text: &mut String, object: usize, value: u32) -> Result<(), AllocError>
     ensures bytes { OnOk result (string_bytes text.new ≡ string_bytes text.old ++ pair_text (object, value)) }
 {
     write!(text, " {object}={value}")
 }
 
-fn put_pairs(text: &mut String, set: &WriteSet) -> fmt::Result
+fn put_pairs(text: &mut String, set: &WriteSet) -> Result<(), AllocError>
     ensures bytes { OnOk result (string_bytes text.new ≡ string_bytes text.old ++ flat_map pair_text (pairs set.now)) }
 {
     for i in 0..set.len() {
@@ -28,14 +28,14 @@ fn put_pairs(text: &mut String, set: &WriteSet) -> fmt::Result
     Ok(())
 }
 
-fn put_head(text: &mut String, n: usize, home: u8, s: u16) -> fmt::Result
+fn put_head(text: &mut String, n: usize, home: u8, s: u16) -> Result<(), AllocError>
     ensures bytes { OnOk result (string_bytes text.new ≡ string_bytes text.old ++ head_text n home s) }
 {
     write!(text, "{n} home {home} s {s}:")
 }
 
 /// Adds the line of a write set: its number, home and s, and its pairs.
-pub(crate) fn put_item(text: &mut String, n: usize, item: &NumberedSet) -> fmt::Result
+pub(crate) fn put_item(text: &mut String, n: usize, item: &NumberedSet) -> Result<(), AllocError>
     ensures bytes { OnOk result (string_bytes text.new ≡ string_bytes text.old ++ item_text n (item_of item.now)) }
 {
     put_head(text, n, item.home, item.s)?;
@@ -45,7 +45,7 @@ pub(crate) fn put_item(text: &mut String, n: usize, item: &NumberedSet) -> fmt::
 }
 
 /// Adds a line for each write set of a record that has so many of them.
-pub(crate) fn put_items(text: &mut String, reader: &Reader, count: usize) -> fmt::Result
+pub(crate) fn put_items(text: &mut String, reader: &Reader, count: usize) -> Result<(), AllocError>
     requires { length (items_in (read_from reader.now)) ≡ count }
     ensures bytes { OnOk result (string_bytes text.new ≡ string_bytes text.old ++ items_text 1 (items_in (read_from reader.now))) }
 {

@@ -4,6 +4,6 @@
 mod items;
 pub mod listing;
 mod ticket;
-mod tickets;
+mod ticket_lines;
 
 pub use listing::list;

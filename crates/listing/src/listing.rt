@@ -6,13 +6,12 @@ ghost use Rattle.record_format.specs.Calls.{MadeOf};
 ghost use Rattle.listing.specs.Listing.{items_text, tickets_text, ListingOf};
 
 use crate::items::put_items;
-use crate::tickets::put_tickets;
+use crate::ticket_lines::put_tickets;
 use record::{Reader, RecordFault, play};
-use std::alloc::Global;
-use std::fmt;
+use std::alloc::{AllocError, Global};
 use tickets::Board;
 
-fn put_lines(text: &mut String, bytes: &[u8], count: usize, board: &Board) -> fmt::Result
+fn put_lines(text: &mut String, bytes: &[u8], count: usize, board: &Board) -> Result<(), AllocError>
     requires { length (items_in bytes.now) ≡ count }
     ensures bytes { OnOk result (string_bytes text.new ≡ string_bytes text.old ++ (items_text 1 (items_in bytes.now) ++ tickets_text (values board.now) 0 16)) }
 {

@@ -11,6 +11,6 @@ returns c =
     let ps = flat_map pair_text (pairs item.set) in
     record {
       bytes =
-          added_twice (string_bytes c.args.text.now) (head_text c.args.n item.home item.s) (ps ++ 10 ∷ []) c.in-ok-put-head.ensures.bytes
-          (added_twice (string_bytes c.put-head.new.text) ps (10 ∷ []) c.in-ok-put-pairs.ensures.bytes c.in-ok-writeln.ensures.bytes);
+          added_twice (string_bytes c.args.text.now) (head_text c.args.n item.home item.s) (ps ++ 10 ∷ []) c.in_ok-put_head.ensures.bytes
+          (added_twice (string_bytes c.put_head.new.text) ps (10 ∷ []) c.in_ok-put_pairs.ensures.bytes c.in_ok-writeln.ensures.bytes);
     }

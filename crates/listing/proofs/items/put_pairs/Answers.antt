@@ -3,7 +3,7 @@ use Rattle.tickets.specs.Meaning.{pairs, pair_of}
 use Rattle.record_format.proofs.Sets.{always_told}
 use Rattle.listing.proofs.Lines.{pairs_more, pairs_all}
 use Rattle.listing.proofs.items.put_pairs.Goals as goal
-use Rattle.listing.proofs.items.put_pairs.Goals.{in-Some+in-ok-put-pair, in-default}
+use Rattle.listing.proofs.items.put_pairs.Goals.{in-Some+in_ok-put_pair, in_default}
 
 pub loop-i-preserved : goal.loop-i-preserved
 loop-i-preserved c =
@@ -11,10 +11,10 @@ loop-i-preserved c =
     let i = c.loop-i.i in
     let h : i < length ps = omega (arith, c.len-i-end.ensures.answer) in
     elim c.match-pair.branch [
-      | in-Some+in-ok-put-pair w ↦
+      | in-Some+in_ok-put_pair w ↦
           pairs_more ps i (pair_of w.in-Some.pair) (string_bytes c.loop-i.text) (string_bytes c.args.text.now) (string_bytes c.match-pair.text) h w.in-Some.ensures.answer c.loop-i.invariant
-          (ap string_bytes w.text-is ∙ w.in-ok-put-pair.ensures.bytes)
-      | in-default w ↦ absurd (always_told ps i h w.in-default.ensures.answer)
+          (ap string_bytes w.text-is ∙ w.in_ok-put_pair.ensures.bytes)
+      | in_default w ↦ absurd (always_told ps i h w.in_default.ensures.answer)
     ]
 
 pub returns : goal.returns

@@ -11,4 +11,4 @@ returns-in-Ok c =
     let its = items_in bs in
     let left = c.play.ensures.after ∙ ap (play_all its) c.zero-board.ensures.answer in
     let text = c.in-Ok.ensures.bytes ∙ (λ i. c.new-text.ensures.bytes i ++ (items_text 1 its ++ tickets_text (left i) 0 16)) in
-    record { answer = made_of ListingOf (decoded bs) c.in-ok-count.count _ c.in-ok-count.ensures.answer text }
+    record { answer = made_of ListingOf (decoded bs) c.in_ok-count.count _ c.in_ok-count.ensures.answer text }

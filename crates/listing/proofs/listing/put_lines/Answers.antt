@@ -11,5 +11,5 @@ returns c =
     let same = ap (λ bs. before ++ items_text 1 (items_in bs)) c.new-reader.ensures.answer in
     record {
       bytes =
-          added_twice before (items_text 1 (items_in c.args.bytes.now)) (tickets_text (values c.args.board.now) 0 16) (c.in-ok-put-items.ensures.bytes ∙ same) c.in-ok-put-tickets.ensures.bytes;
+          added_twice before (items_text 1 (items_in c.args.bytes.now)) (tickets_text (values c.args.board.now) 0 16) (c.in_ok-put_items.ensures.bytes ∙ same) c.in_ok-put_tickets.ensures.bytes;
     }

@@ -4,7 +4,7 @@ ghost use Rattle.tickets.specs.Meaning.{values};
 ghost use Rattle.listing.specs.Listing.{field, used, ticket_at, front_text, back_text, ticket_text, tickets_text};
 
 use crate::ticket::Ticket;
-use std::fmt;
+use std::alloc::AllocError;
 use tickets::Board;
 
 const TICKETS: usize = 16;
@@ -49,7 +49,7 @@ fn ticket_of(board: &Board, ticket: usize) -> Ticket
     }
 }
 
-fn put_front(text: &mut String, n: usize, ticket: Ticket) -> fmt::Result
+fn put_front(text: &mut String, n: usize, ticket: Ticket) -> Result<(), AllocError>
     ensures bytes { OnOk result (string_bytes text.new ≡ string_bytes text.old ++ front_text n ticket) }
 {
     let Ticket {
@@ -65,7 +65,7 @@ fn put_front(text: &mut String, n: usize, ticket: Ticket) -> fmt::Result
     )
 }
 
-fn put_back(text: &mut String, ticket: Ticket) -> fmt::Result
+fn put_back(text: &mut String, ticket: Ticket) -> Result<(), AllocError>
     ensures bytes { OnOk result (string_bytes text.new ≡ string_bytes text.old ++ back_text ticket) }
 {
     let Ticket {
@@ -81,7 +81,7 @@ fn put_back(text: &mut String, ticket: Ticket) -> fmt::Result
     )
 }
 
-fn put_ticket(text: &mut String, n: usize, ticket: Ticket) -> fmt::Result
+fn put_ticket(text: &mut String, n: usize, ticket: Ticket) -> Result<(), AllocError>
     ensures bytes { OnOk result (string_bytes text.new ≡ string_bytes text.old ++ ticket_text n ticket) }
 {
     put_front(text, n, ticket)?;
@@ -90,7 +90,7 @@ fn put_ticket(text: &mut String, n: usize, ticket: Ticket) -> fmt::Result
 }
 
 /// Adds a line for each ticket that is other than empty.
-pub(crate) fn put_tickets(text: &mut String, board: &Board) -> fmt::Result
+pub(crate) fn put_tickets(text: &mut String, board: &Board) -> Result<(), AllocError>
     ensures bytes { OnOk result (string_bytes text.new ≡ string_bytes text.old ++ tickets_text (values board.now) 0 16) }
 {
     for ticket in 0..TICKETS {

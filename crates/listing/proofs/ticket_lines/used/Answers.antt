@@ -1,7 +1,7 @@
 use Rattle.std.proofs.Common.{sym, ◌∙◌}
 use Rattle.tickets.specs.Meaning.{values}
 use Rattle.listing.proofs.Lines.{used_here, unused_here, unused}
-use Rattle.listing.proofs.tickets.used.Goals as goal
+use Rattle.listing.proofs.ticket_lines.used.Goals as goal
 
 pub returns-then-field-ne0 : goal.returns-then-field-ne0
 returns-then-field-ne0 c = record {
