@@ -1,11 +1,11 @@
 -- The steps of looking a copy over: its places one by one, and its objects one by one.
-use Rattle.std.proofs.Common.{◌≡◌, ℕ, suc, ◌+◌, ◌-◌, ◌<◌, ◌≤◌, Bool, true, false, cond, ◌||◌, ltb, List, [], length, get_or, drop, is_some, Some, None, Ok, Err, Option, sym, refl, ap, ◌∙◌, inl, inr, arith}
+use Rattle.std.proofs.Common.{◌≡◌, ℕ, suc, ◌+◌, ◌-◌, ◌<◌, ◌≤◌, Bool, true, false, cond, ◌||◌, ltb, List, length, get_or, drop, is_some, Some, None, Ok, Err, Option, sym, refl, ap, ◌∙◌, inl, inr, arith}
 use Rattle.std.specs.Result.{result_unwrap_or}
 use Rattle.std.proofs.lemmas.List.{at_drop_more, at_drop_all, get_or_past}
 use Rattle.std.proofs.lemmas.Bool.{cases_lt, ltb-false, lt-ltb}
 use Rattle.stores.specs.declared.fault.StoreFault.TheVariants.{NoPlace, NoObject}
 use Rattle.stores.specs.Model.{StoreModel, Place, open_answer, value_answer}
-use Rattle.tickets.specs.Boards.{Board, value}
+use Rattle.tickets.specs.Boards.{value}
 use Rattle.errands.specs.Copies.{any_open, first_object}
 
 -- ---- places

@@ -1,5 +1,5 @@
 -- The steps of looking for a place that is not open.
-use Rattle.std.proofs.Common.{◌≡◌, ℕ, suc, ◌+◌, ◌-◌, ◌<◌, ◌≤◌, Bool, true, false, cond, List, sym, refl, ap, ◌∙◌, arith}
+use Rattle.std.proofs.Common.{◌≡◌, ℕ, suc, ◌+◌, ◌-◌, ◌<◌, ◌≤◌, Bool, cond, List, sym, ap, ◌∙◌, arith}
 use Rattle.stores.specs.Model.{StoreModel}
 use Rattle.errands.specs.Places.{vacant_at, vacant_from}
 

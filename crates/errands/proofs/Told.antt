@@ -1,9 +1,9 @@
 -- The own writes of a place, told one by one: those told and those left give the whole, and each front of them is a write set.
-use Rattle.std.proofs.Common.{◌≡◌, ℕ, zero, suc, ◌+◌, ◌-◌, ◌<◌, ◌≤◌, Bool, true, false, cond, ◌&&◌, ltb, leb, List, [], ◌∷◌, ◌++◌, length, get_or, is_some, Some, None, Ok, Err, Option, Result, sym, refl, ap, ◌∙◌, subst, add-one, arith}
+use Rattle.std.proofs.Common.{◌≡◌, ℕ, zero, suc, ◌+◌, ◌-◌, ◌<◌, ◌≤◌, Bool, true, false, cond, ltb, leb, List, [], ◌∷◌, ◌++◌, length, is_some, Some, None, Ok, Err, Option, Result, sym, refl, ap, ◌∙◌, subst, arith}
 use Rattle.std.proofs.lemmas.List.{append-nil, append_assoc, length-append}
 use Rattle.std.proofs.lemmas.Bool.{and_from, and_parts, le-leb, lt-ltb, ltb-true, cond-true}
 use Rattle.tickets.specs.declared.pair.Pair.{Pair}
-use Rattle.tickets.specs.WriteSets.{Pairs, rising, is_write_set}
+use Rattle.tickets.specs.WriteSets.{Pairs, rising}
 use Rattle.tickets.specs.Meaning.{pair_of, built}
 use Rattle.stores.specs.declared.fault.StoreFault.{StoreFault}
 use Rattle.stores.specs.Model.{StoreModel, Place, Lawful, OwnLawful, bind, place_at, told_or, first_from, told_answer, count_below, own_count}

@@ -1,5 +1,5 @@
 -- The pairs of a write set written one by one: what the rest comes to from here is what all of them come to.
-use Rattle.std.proofs.Common.{◌≡◌, ℕ, ◌+◌, ◌<◌, ◌≤◌, Bool, true, false, cond, ltb, List, [], ◌∷◌, length, get_or, drop, Some, None, Ok, Err, Option, Result, sym, refl, ap, ◌∙◌, arith}
+use Rattle.std.proofs.Common.{◌≡◌, ℕ, ◌+◌, ◌<◌, ◌≤◌, Bool, true, false, cond, ltb, List, ◌∷◌, length, get_or, drop, Some, None, Ok, Err, Option, Result, sym, refl, ap, ◌∙◌, arith}
 use Rattle.std.specs.Option.{option_map}
 use Rattle.std.proofs.lemmas.List.{drop_more, drop_all}
 use Rattle.std.proofs.lemmas.Bool.{ltb-true, ltb-false}
@@ -8,8 +8,8 @@ use Rattle.tickets.specs.declared.pair.Pair.{Pair}
 use Rattle.tickets.specs.WriteSets.{Pairs}
 use Rattle.tickets.specs.Meaning.{pair_of}
 use Rattle.banks.specs.declared.fault.BankFault.{BankFault}
-use Rattle.errands.specs.Outcomes.{Outcome, done, refused, step, go_on}
-use Rattle.errands.specs.Replay.{AtBank, write_at, write_all}
+use Rattle.errands.specs.Outcomes.{done, refused, go_on}
+use Rattle.errands.specs.Replay.{write_at, write_all}
 
 -- ---- the pair at i, as a write set tells it
 

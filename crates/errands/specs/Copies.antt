@@ -1,5 +1,5 @@
 -- What opening asks of a replica's copy: whether it was used, and its lowest object that is above its top or unlike the starting board.
-use Rattle.std.specs.Prelude.{ℕ, zero, suc, ◌+◌, Bool, true, false, cond, not, ◌||◌, List, [], ◌∷◌, is_some, Some, None, Option, ◌==◌, nat_lt}
+use Rattle.std.specs.Prelude.{ℕ, zero, suc, ◌+◌, Bool, false, cond, not, ◌||◌, List, [], ◌∷◌, is_some, Some, None, Option, ◌==◌, nat_lt}
 use Rattle.stores.specs.Model.{StoreModel, Place}
 use Rattle.tickets.specs.Boards.{Board, value, top}
 

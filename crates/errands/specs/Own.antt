@@ -1,5 +1,5 @@
 -- The own writes of a place, as a write set.
-use Rattle.std.specs.Prelude.{ℕ, zero, suc, ◌+◌, List, [], ◌∷◌, Some, None, Ok, Err, Option, Result}
+use Rattle.std.specs.Prelude.{ℕ, zero, suc, ◌+◌, [], ◌∷◌, Some, None, Ok, Err, Option, Result}
 use Rattle.stores.specs.declared.fault.StoreFault.{StoreFault}
 use Rattle.stores.specs.Model.{StoreModel, Place, bind, place_at}
 use Rattle.tickets.specs.WriteSets.{Pairs}

@@ -1,5 +1,5 @@
 -- The clash of two write sets: as pairs, as functions of the object, and today's rule.
-use Rattle.std.proofs.Common.{◌≡◌, ℕ, Bool, true, false, cond, ◌||◌, eqb, ◌⊎◌, [], ◌∷◌, is_some, Some, None, Option, refl, ap, ⊎_elim}
+use Rattle.std.proofs.Common.{◌≡◌, ℕ, Bool, true, false, cond, ◌||◌, eqb, [], ◌∷◌, is_some, Some, None, Option, refl, ap, ⊎_elim}
 use Rattle.std.proofs.lemmas.Bool.{both_ways, eq-eqb, eqb-true, or_cases, or_left, or_right}
 use Rattle.tickets.specs.WriteSets.{Pairs, lookup, stands}
 use Rattle.law.specs.Clashes.{ClashAgrees, ClashIsSharing, Clashing, clash, clash_at}

@@ -21,7 +21,6 @@ use Rattle.law.proofs.Layers.{layers_add, layers_front, layers_same}
 use Rattle.law.proofs.Numbers.{Found, Lowest, count_most, exactly_is, lowest_is}
 use Rattle.law.proofs.Orderly.{not_yet}
 use Rattle.law.proofs.OrderlySteps.{lowest_free, orderly_played}
-use Rattle.law.proofs.Worlds.{replicas}
 use Rattle.law.proofs.Writes.{lookup_put}
 
 -- the words of a queue, side by side

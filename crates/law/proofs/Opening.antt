@@ -16,7 +16,6 @@ use Rattle.law.specs.World.{World, board_of, world_plain}
 use Rattle.law.proofs.Numbers.{Lowest, lowest_is}
 use Rattle.law.proofs.Queues.{orderly_opened}
 use Rattle.law.proofs.SimulatedSteps.{every_world_call}
-use Rattle.law.proofs.Stores.{commits}
 
 -- a store that opening accepted
 record Accepted (start : Board) (σ : Store) : Type 0 where

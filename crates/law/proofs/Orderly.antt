@@ -1,9 +1,9 @@
 -- A plain board stays orderly where transactions begin, write, end and are numbered.
-use Rattle.std.proofs.Common.{◌≡◌, ℕ, suc, ◌+◌, ◌-◌, ◌<◌, ◌≤◌, Bool, true, false, ◌&&◌, eqb, ◌⊎◌, [], ◌∷◌, ◌++◌, length, set, sym, refl, ap, ◌∙◌, subst, ⊎_elim, arith, length-set}
+use Rattle.std.proofs.Common.{◌≡◌, ℕ, suc, ◌+◌, ◌-◌, ◌<◌, ◌≤◌, Bool, true, false, ◌&&◌, eqb, [], ◌∷◌, ◌++◌, length, set, sym, refl, ap, ◌∙◌, subst, ⊎_elim, arith, length-set}
 use Rattle.std.proofs.lemmas.List.{get_or_append_left, get_or-set_other, get_or-set_same, length_push}
 use Rattle.std.proofs.lemmas.Bool.{both_ways, cases_Bool, eqb-true, le-leb}
 use Rattle.tickets.specs.Boards.{Board}
-use Rattle.tickets.specs.WriteSets.{Pairs, rising}
+use Rattle.tickets.specs.WriteSets.{Pairs}
 use Rattle.law.specs.Clashes.{clash}
 use Rattle.law.specs.Numbers.{count, whole}
 use Rattle.law.specs.Orderly.{Fine, Orderly, OwnFine, Pending, SetFine, TransactionFine}

@@ -5,7 +5,6 @@ use Rattle.std.proofs.lemmas.Bool.{both_ways}
 use Rattle.calls.specs.declared.call.Call.{Call}
 use Rattle.tickets.specs.Boards.{Board}
 use Rattle.law.specs.History.{Answer, History, accepted, run_of}
-use Rattle.law.specs.History.Answer.{refused}
 use Rattle.law.specs.History.Event.{event}
 use Rattle.law.specs.Law.{Law}
 use Rattle.law.specs.Opening.{LawfulBank, PlainBoard, board_open, board_step, opening, start_of}

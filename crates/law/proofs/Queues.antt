@@ -23,7 +23,6 @@ use Rattle.law.specs.Writes.{is_empty}
 use Rattle.law.proofs.Cases.{by_check, by_transaction}
 use Rattle.law.proofs.OrderlySteps.{orderly_step}
 use Rattle.law.proofs.Rights.{KeptBy, good}
-use Rattle.law.proofs.Worlds.{replicas}
 
 pub runs : (start : Board) (K : ℕ) (queue : List Call) (h : History) (p : Plain) → Orderly p → KeptBy start K (facts h) p → AllRight start K h →
     KeptBy start K (facts (run queue h p).0) (run queue h p).1 × AllRight start K (run queue h p).0

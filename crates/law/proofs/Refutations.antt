@@ -14,7 +14,6 @@ use Rattle.law.specs.Plain.TransactionState.{committed}
 use Rattle.law.specs.Refutations.{Refuted, Scene, scene_calls, zeros}
 use Rattle.law.specs.Steps.{step}
 use Rattle.law.specs.Transactions.{clashes, verdict}
-use Rattle.law.specs.Words.{given}
 use Rattle.law.specs.Writes.{is_empty}
 use Rattle.law.proofs.Cases.{by_check, by_open}
 use Rattle.law.proofs.Queues.{plain_queue}

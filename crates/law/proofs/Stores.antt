@@ -1,10 +1,9 @@
 -- What a store answers where its meaning allows it.
-use Rattle.std.proofs.Common.{◌≡◌, ℕ, suc, ◌+◌, ◌<◌, ◌≤◌, Bool, true, false, cond, eqb, ltb, ◌⊎◌, [], ◌∷◌, length, get_or, set, is_some, Some, None, Option, refl, ap, ◌∙◌, ⊎_elim, arith, length-set}
+use Rattle.std.proofs.Common.{◌≡◌, ℕ, suc, ◌+◌, ◌<◌, ◌≤◌, Bool, true, false, cond, eqb, ltb, [], ◌∷◌, length, get_or, set, is_some, Some, None, Option, refl, ap, ◌∙◌, ⊎_elim, arith, length-set}
 use Rattle.std.proofs.lemmas.List.{get_or-set_other, get_or-set_same, set-set}
 use Rattle.std.proofs.lemmas.Bool.{cases_Bool, eq-eqb, eqb-true, lt-ltb, ne_eqb, or_from, or_right}
 use Rattle.tickets.specs.WriteSets.{Pairs, lookup, play, rising, stands}
 use Rattle.law.specs.Orderly.{Fine}
-use Rattle.law.specs.Plain.{board}
 use Rattle.law.specs.Store.{Place, Store, fresh, is_open, is_overtaken, open_count, overtake_all, overtake_in, place, store_begin, store_commit, store_play, store_write, store_write_all, with_place, writes}
 use Rattle.law.specs.Store.Done.{fine}
 use Rattle.law.specs.Writes.{is_empty, room}

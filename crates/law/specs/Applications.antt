@@ -1,5 +1,5 @@
 -- The plain board's apply and drain.
-use Rattle.std.specs.Prelude.{ℕ, zero, suc, ◌-◌, min, Bool, cond, not, ◌&&◌, ◌||◌, List, [], ◌∷◌, length, set, ◌==◌, nat_lt, slice_set}
+use Rattle.std.specs.Prelude.{ℕ, zero, suc, ◌-◌, min, Bool, cond, not, ◌&&◌, ◌||◌, List, [], ◌∷◌, length, ◌==◌, nat_lt, slice_set}
 use Rattle.tickets.specs.WriteSets.{play}
 use Rattle.law.specs.Numbers.{up_to, count, lowest}
 use Rattle.law.specs.Clashes.{clash}

@@ -1,5 +1,5 @@
 -- The plain board before and after its opening over a bank of stores.
-use Rattle.std.specs.Prelude.{ℕ, zero, suc, ◌-◌, ◌<◌, Bool, true, false, cond, not, ◌||◌, List, [], ◌∷◌, length, ◌==◌, nat_le, nat_lt, slice_index_or}
+use Rattle.std.specs.Prelude.{ℕ, zero, suc, ◌-◌, ◌<◌, Bool, cond, not, ◌||◌, List, [], ◌∷◌, length, ◌==◌, nat_le, nat_lt, slice_index_or}
 use Rattle.calls.specs.declared.call.Call.{Call}
 use Rattle.tickets.specs.Boards.{Board, value, top}
 use Rattle.law.specs.Numbers.{lowest}

@@ -1,5 +1,5 @@
 -- The plain board: what it holds from its opening on, and the checks of its calls.
-use Rattle.std.specs.Prelude.{ℕ, ◌-◌, Bool, true, false, ◌&&◌, List, [], length, set, replicate, ◌==◌, slice_index_or, slice_set}
+use Rattle.std.specs.Prelude.{ℕ, ◌-◌, Bool, true, false, ◌&&◌, List, [], length, replicate, ◌==◌, slice_index_or, slice_set}
 use Rattle.tickets.specs.Boards.{Board}
 use Rattle.tickets.specs.WriteSets.{Pairs}
 use Rattle.law.specs.Numbers.{up_to, tally}

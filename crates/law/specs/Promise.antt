@@ -2,9 +2,9 @@
 use Rattle.std.specs.Prelude.{◌≡◌, ℕ, Bool, true, false, List, [], ◌∷◌, map, length}
 use Rattle.calls.specs.declared.call.Call.{Call}
 use Rattle.tickets.specs.Boards.{Board}
-use Rattle.law.specs.History.{Answer, accepted, is_fault, Event, History, run_of}
+use Rattle.law.specs.History.{Answer, accepted, is_fault, History, run_of}
 use Rattle.law.specs.History.Event.{event}
-use Rattle.law.specs.Plain.{Plain, just_opened}
+use Rattle.law.specs.Plain.{just_opened}
 use Rattle.law.specs.Steps.{run}
 use Rattle.law.specs.Law.{Law}
 use Rattle.law.specs.Store.{Store}

@@ -1,5 +1,5 @@
 -- What the law or the plain board shuts out: each a machine that one would send back.
-use Rattle.std.specs.Prelude.{◌≡◌, ℕ, suc, ◌<◌, ◌≤◌, true, false, List, [], ◌∷◌, length, replicate, Some, ◌≢◌, slice_set}
+use Rattle.std.specs.Prelude.{◌≡◌, ℕ, ◌<◌, ◌≤◌, true, false, List, [], ◌∷◌, length, replicate, ◌≢◌, slice_set}
 use Rattle.calls.specs.declared.call.Call.{Call}
 use Rattle.calls.specs.declared.call.Call.TheVariants.{Begin, Read, Write, Commit, Apply, Drain, Value}
 use Rattle.tickets.specs.Boards.{Board}
@@ -9,7 +9,7 @@ use Rattle.law.specs.History.Answer.{done, told, read_only, aborts, refused}
 use Rattle.law.specs.History.Event.{event}
 use Rattle.law.specs.Plain.{Plain, just_opened}
 use Rattle.law.specs.Steps.{step, run}
-use Rattle.law.specs.Words.{Facts, facts, last_write, given, snapshot}
+use Rattle.law.specs.Words.{Facts, facts, given, snapshot}
 use Rattle.law.specs.Law.{Clash, HoldsBack, lacking, Right, Law}
 
 abbrev pub zeros : Board

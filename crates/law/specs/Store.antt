@@ -1,5 +1,5 @@
 -- The meaning of a local store, with the own writes of its places as pairs, and what each of its functions does to it.
-use Rattle.std.specs.Prelude.{◌≡◌, ℕ, suc, ◌≤◌, Bool, true, false, cond, ◌||◌, List, [], ◌∷◌, length, set, Some, None, Option, ◌==◌, nat_lt, slice_index_or, slice_set}
+use Rattle.std.specs.Prelude.{◌≡◌, ℕ, suc, ◌≤◌, Bool, true, false, cond, ◌||◌, List, [], ◌∷◌, length, Some, None, Option, ◌==◌, nat_lt, slice_index_or, slice_set}
 use Rattle.tickets.specs.Boards.{Board, value}
 use Rattle.tickets.specs.WriteSets.{Pairs, lookup, stands, play, over}
 use Rattle.law.specs.Numbers.{tally}

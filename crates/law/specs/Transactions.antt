@@ -1,5 +1,5 @@
 -- The plain board's begin, read, write, commit and give-up.
-use Rattle.std.specs.Prelude.{ℕ, zero, suc, ◌-◌, Bool, cond, ◌&&◌, List, [], ◌∷◌, ◌++◌, length, set, nat_le, nat_lt, slice_set}
+use Rattle.std.specs.Prelude.{ℕ, zero, suc, ◌-◌, Bool, cond, ◌&&◌, List, [], ◌∷◌, ◌++◌, length, nat_le, nat_lt, slice_set}
 use Rattle.tickets.specs.Boards.{Board, value, top}
 use Rattle.tickets.specs.WriteSets.{Pairs, lookup, over}
 use Rattle.law.specs.Numbers.{count, lowest, whole}

@@ -6,7 +6,7 @@ use Rattle.tickets.specs.Boards.{value, top}
 use Rattle.tickets.specs.WriteSets.{Pairs}
 use Rattle.law.specs.Numbers.{up_to, count, lowest, whole}
 use Rattle.law.specs.Writes.{is_empty}
-use Rattle.law.specs.History.{Answer, History, run_of}
+use Rattle.law.specs.History.{Answer}
 use Rattle.law.specs.History.Answer.{done, told, values, read_only, aborts, refused, fault}
 use Rattle.law.specs.Plain.{numbered, pairs}
 use Rattle.law.specs.Transactions.{clashes}

@@ -1,11 +1,11 @@
 -- Cutting the token in front off a line.
-use Rattle.std.proofs.Common.{◌≡◌, ℕ, ◌+◌, ◌-◌, ◌≤◌, eqb, leb, List, [], ◌∷◌, ◌++◌, length, take, drop, Some, None, Option, sym, refl, ap, ◌∙◌, arith}
+use Rattle.std.proofs.Common.{◌≡◌, ℕ, ◌+◌, ◌-◌, ◌≤◌, eqb, leb, List, [], ◌∷◌, ◌++◌, length, take, drop, Some, Option, sym, refl, ap, ◌∙◌, arith}
 use Rattle.std.specs.Char.{is_ascii_digit, is_ascii_alphabetic}
 use Rattle.std.proofs.lemmas.List.{drop-drop, length-drop, take-append-drop}
 use Rattle.std.proofs.lemmas.Bool.{cond_both, eqb-true}
 use Rattle.std.proofs.lemmas.Bool.Decides.{nat_tests}
 use Rattle.lines.specs.Fronts.{front}
-use Rattle.lines.specs.Tokens.{Piece, letter, number, some_digits, token_in_front, taken_off, behind_token}
+use Rattle.lines.specs.Tokens.{Piece, number, some_digits, token_in_front, taken_off, behind_token}
 use Rattle.lines.proofs.Fronts.{front_comes_first, front_is_short}
 
 pub digits_are_a_number : (ds : List ℕ) → (length ds ≡ 0 → ⊥) → Some (number ds) ≡ some_digits ds

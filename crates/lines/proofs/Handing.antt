@@ -1,8 +1,7 @@
 -- Handing out the lines to the last gives all of them, in order.
-use Rattle.std.proofs.Common.{◌≡◌, ℕ, true, List, [], ◌∷◌, map, length, Option, sym, ap, ◌∙◌, subst, Bor}
-use Rattle.std.specs.Iterator.{DrainsIf}
+use Rattle.std.proofs.Common.{◌≡◌, ℕ, List, length, Option, sym, ap, ◌∙◌, Bor}
 use Rattle.std.specs.Option.{option_map}
-use Rattle.std.specs.Iterator.Runs.{Run, WholeRun, YieldsRun}
+use Rattle.std.specs.Iterator.Runs.{WholeRun, YieldsRun}
 use Rattle.std.proofs.lemmas.Iterator.{YieldsList, items_from_drains}
 use Rattle.std.proofs.lemmas.List.{length-map}
 use Rattle.std.proofs.lemmas.Iterator.Consumers.{YieldsList-from_shown}

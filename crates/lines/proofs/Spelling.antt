@@ -1,5 +1,5 @@
 -- A line is understood exactly where it is the spelling of a call.
-use Rattle.std.proofs.Common.{◌≡◌, ℕ, ◌^◌, ◌<◌, Bool, true, cond, eqb, List, [], ◌∷◌, ◌++◌, length, get_or, Some, None, Option, sym, refl, ap, ◌∙◌, subst, arith}
+use Rattle.std.proofs.Common.{◌≡◌, ℕ, ◌^◌, ◌<◌, true, eqb, List, [], ◌∷◌, ◌++◌, length, get_or, Some, None, Option, sym, refl, ap, ◌∙◌, subst, arith}
 use Rattle.std.specs.Option.{option_map}
 use Rattle.std.specs.Char.{is_ascii_digit, is_ascii_alphabetic}
 use Rattle.std.specs.List.{AllByRecursion as All}
@@ -9,7 +9,7 @@ use Rattle.calls.specs.declared.call.Call.TheVariants.{Begin, Read, Write, Commi
 use Rattle.lines.specs.Fronts.{front}
 use Rattle.lines.specs.Reading.{letter_in, numbers_in, with_one, with_two, with_three, one, two, three, asked, understood}
 use Rattle.lines.specs.Spelling.{spaced, numbers_of, letter_of, spelled, Narrow, Understands}
-use Rattle.lines.specs.Tokens.{Piece, letter, number, some_digits, token_in_front, taken_off, behind_token}
+use Rattle.lines.specs.Tokens.{Piece, some_digits, token_in_front, taken_off, behind_token}
 use Rattle.lines.proofs.Cutting.{nothing_is_left_over}
 use Rattle.lines.proofs.Options.{none_is_not_some, same_in_some}
 use Rattle.lines.proofs.Spaced.{spaced_numbers_are_read_back, only_spaced_numbers_are_read}

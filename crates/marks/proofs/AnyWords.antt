@@ -1,5 +1,5 @@
 -- Marks in a list of words, however many. Assumes nothing.
-use Rattle.std.proofs.Common.{◌≡◌, ℕ, zero, suc, ◌+◌, ◌-◌, ◌*◌, ◌/◌, ◌%◌, ◌^◌, ◌<◌, ◌≤◌, Bool, true, false, cond, ◌&&◌, ◌||◌, eqb, ltb, List, length, get_or, set, Some, sym, refl, ap, ◌∙◌, ⊎_elim, arith}
+use Rattle.std.proofs.Common.{◌≡◌, ℕ, ◌+◌, ◌-◌, ◌*◌, ◌/◌, ◌%◌, ◌^◌, ◌<◌, ◌≤◌, Bool, true, false, cond, ◌&&◌, eqb, ltb, List, length, get_or, set, Some, sym, refl, ap, ◌∙◌, ⊎_elim, arith}
 use lib.Bits.{bit_and, bit_or}
 use lib.Count.{ones, count_trailing_zeros}
 use Rattle.std.proofs.lemmas.Nat.{shr_le, and_le_l}
@@ -7,7 +7,7 @@ use Rattle.std.proofs.lemmas.List.{get_or-set_same, get_or-set_other, get_or_pas
 use Rattle.std.proofs.lemmas.Bool.{cases_eq, cases_lt, lt-ltb, ne_eqb, both_ways}
 use Rattle.std.proofs.lemmas.Bool.Decides.{nat_tests}
 use Rattle.marks.specs.Marked.{bit, marked_in, with_mark, either, both, count_below, any_below, lowest_from, Lowest}
-use Rattle.marks.proofs.Bits.{bit-none, bit_shifted, bit_past, bit-or, bit-and, ones_are_bits, LowestBit, trailing_lowest}
+use Rattle.marks.proofs.Bits.{bit-none, bit_shifted, bit_past, bit-or, bit-and, ones_are_bits, trailing_lowest}
 use Rattle.marks.proofs.Scans.{count_splits, count_same, any_at, lowest_passes, lowest_stops, walk_finds_the_lowest}
 
 module _ (ws : List ℕ) where

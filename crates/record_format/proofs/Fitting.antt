@@ -1,10 +1,10 @@
 -- What it says that an item may stand at its number, and that a list is a run.
-use Rattle.std.proofs.Common.{◌≡◌, ℕ, ◌+◌, ◌^◌, ◌<◌, ◌≤◌, Bool, true, false, cond, leb, List, [], ◌∷◌, length, Some, None, Option, sym, ◌∙◌, inl, inr, arith}
+use Rattle.std.proofs.Common.{◌≡◌, ℕ, ◌+◌, ◌^◌, ◌<◌, ◌≤◌, true, leb, List, ◌∷◌, length, Some, None, Option, sym, ◌∙◌, inl, inr, arith}
 use Rattle.std.proofs.lemmas.Bool.{and_parts, leb-true, ltb-true, le-leb, cond-true, cond-false, cases_Bool}
 use Rattle.tickets.specs.Boards.{top}
-use Rattle.tickets.specs.WriteSets.{Pairs, is_write_set, rising}
+use Rattle.tickets.specs.WriteSets.{Pairs, is_write_set}
 use Rattle.tickets.proofs.Playing.{tops_fit}
-use Rattle.record_format.specs.Items.{Item, within_tops, fits, first_unfit, unfit, Run}
+use Rattle.record_format.specs.Items.{Item, within_tops, fits, first_unfit, Run}
 
 -- the first value is within its top, so that it fits in four bytes, and so are the others
 pub record FirstValue (v : ℕ) (ps : Pairs) : Type 0 where

@@ -1,5 +1,5 @@
 -- What reads is a run, and is written back as the same bytes.
-use Rattle.std.proofs.Common.{◌≡◌, ℕ, zero, suc, ◌+◌, ◌*◌, ◌<◌, ◌≤◌, Bool, true, false, ◌||◌, eqb, ltb, leb, List, [], ◌∷◌, ◌++◌, length, get_or, take, drop, None, Ok, Err, Result, sym, refl, ap, ◌∙◌, subst, inl, inr, arith}
+use Rattle.std.proofs.Common.{◌≡◌, ℕ, zero, suc, ◌+◌, ◌*◌, ◌<◌, ◌≤◌, true, false, eqb, ltb, leb, List, [], ◌∷◌, ◌++◌, length, get_or, take, drop, None, Ok, Err, Result, sym, refl, ap, ◌∙◌, subst, inl, inr, arith}
 use Rattle.std.specs.List.{flat_map}
 use Rattle.std.proofs.lemmas.Bool.{and_parts, or_parts, eqb-true, leb-true, ltb-false, cond-true, cond-false, cases_Bool}
 use Rattle.std.proofs.ByRecursion.{All-drop}
@@ -9,7 +9,7 @@ use Rattle.record_format.specs.Written.{two, pair_bytes, body, entry, contents, 
 use Rattle.record_format.specs.Reading.{two_of, pairs_in, item_in, size_in, stands, before, decoded_from, headless, decoded}
 use Rattle.record_format.specs.Laws.{Bytes}
 use Rattle.record_format.proofs.Numbers.{two_forth, four_forth}
-use Rattle.record_format.proofs.Fitting.{RunParts, all_fit, run_from}
+use Rattle.record_format.proofs.Fitting.{all_fit, run_from}
 use Rattle.record_format.proofs.Lengths.{length-body}
 
 pub length-pairs_in : (k : ℕ) (bs : List ℕ) → length (pairs_in k bs) ≡ k

@@ -1,9 +1,9 @@
 -- How long the parts of a record are, and why every offset fits its two bytes.
-use Rattle.std.proofs.Common.{◌≡◌, ℕ, ◌+◌, ◌*◌, ◌<◌, ◌≤◌, List, [], ◌∷◌, ◌++◌, length, None, refl, ap, ◌∙◌, arith}
+use Rattle.std.proofs.Common.{◌≡◌, ℕ, ◌+◌, ◌*◌, ◌<◌, ◌≤◌, List, [], ◌∷◌, length, None, refl, arith}
 use Rattle.std.specs.List.{flat_map, AllByRecursion as All}
 use Rattle.std.proofs.lemmas.List.{length-append}
 use Rattle.tickets.specs.WriteSets.{Pairs}
-use Rattle.record_format.specs.Items.{Item, first_unfit, Run}
+use Rattle.record_format.specs.Items.{Item, first_unfit}
 use Rattle.record_format.specs.Written.{pair_bytes, body, contents, bodies, first_body, encoded}
 use Rattle.record_format.specs.Laws.{offsets, SizeLaws}
 use Rattle.record_format.proofs.Fitting.{fit, first_fits, run_parts}

@@ -1,16 +1,16 @@
 -- An item of a record that reads stands where its entry in the contents says.
-use Rattle.std.proofs.Common.{◌≡◌, ℕ, zero, suc, ◌+◌, ◌-◌, ◌*◌, ◌<◌, ◌≤◌, Bool, true, false, cond, ◌⊎◌, List, [], ◌∷◌, ◌++◌, map, length, get_or, take, drop, Some, None, Ok, Err, Option, Result, sym, refl, ap, ◌∙◌, subst, inl, inr, add-one, arith}
+use Rattle.std.proofs.Common.{◌≡◌, ℕ, zero, suc, ◌+◌, ◌-◌, ◌*◌, ◌<◌, ◌≤◌, true, cond, ◌⊎◌, List, [], ◌∷◌, ◌++◌, map, length, get_or, take, drop, Some, None, Ok, Err, Option, Result, sym, refl, ap, ◌∙◌, subst, inl, inr, add-one, arith}
 use Rattle.std.specs.Option.{option_map}
 use Rattle.std.proofs.lemmas.Bool.{cond-true, cond-false, cases_Bool}
 use Rattle.std.proofs.ByRecursion.{All-drop}
 use Rattle.std.proofs.lemmas.List.{drop-drop, length-drop, length-map, length-take-le, get_or-drop}
 use Rattle.record_format.specs.Items.{Item}
 use Rattle.record_format.specs.Written.{body, first_body, placed_bodies}
-use Rattle.record_format.specs.Reading.{two_of, item_in, size_in, entry_of, Entered, stands, item_at, before, decoded_from, headless, decoded, count_of, items_read, items_in, bodies_in, numbered, span, span_in}
+use Rattle.record_format.specs.Reading.{two_of, item_in, size_in, entry_of, Entered, stands, item_at, decoded_from, headless, decoded, count_of, items_read, items_in, bodies_in, numbered, span, span_in}
 use Rattle.record_format.specs.Laws.{Bytes}
 use Rattle.record_format.proofs.Lengths.{length-body}
 use Rattle.record_format.proofs.Forth.{length-pairs_in, stands_parts, body_forth, others_read, head}
-use Rattle.record_format.proofs.Walk.{rest, here, stands_there, Stood, size_is, within_more, rest_more, tally, all_left}
+use Rattle.record_format.proofs.Walk.{rest, here, stands_there, Stood, within_more, rest_more, all_left}
 
 -- item m of those that are left is item n of the record: what it is, and where its body lies
 pub record Found (bs : List ℕ) (first : ℕ) (its : List Item) (n m : ℕ) : Type 0 where

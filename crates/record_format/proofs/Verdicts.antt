@@ -1,5 +1,5 @@
 -- What a reader's verdict tells of its record.
-use Rattle.std.proofs.Common.{◌≡◌, ℕ, suc, ◌<◌, List, [], ◌∷◌, length, get_or, Ok, Err, Result, sym, refl, ◌∙◌, arith}
+use Rattle.std.proofs.Common.{◌≡◌, ℕ, suc, ◌<◌, List, [], ◌∷◌, length, get_or, Ok, Err, Result, refl, arith}
 use Rattle.record_format.specs.Items.{Item}
 use Rattle.record_format.specs.Written.{encoded}
 use Rattle.record_format.specs.Reading.{decoded, count_of, items_read, items_in}
@@ -8,7 +8,6 @@ use Rattle.record_format.proofs.Forth.{writes_back}
 use Rattle.record_format.specs.Calls.{or_malformed, verdict_of, MadeOf}
 use Rattle.record_format.specs.Faults.{listed}
 use Rattle.record_format.specs.declared.fault.RecordFault.{RecordFault}
-use Rattle.record_format.specs.declared.fault.RecordFault.TheVariants.{Malformed}
 
 pub listed_verdict : (r : Result ℕ ℕ) → listed (verdict_of r) ≡ or_malformed r
 listed_verdict (Ok n) = refl

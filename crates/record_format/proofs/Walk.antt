@@ -1,10 +1,10 @@
 -- A record read item by item: what is left after some of them.
-use Rattle.std.proofs.Common.{◌≡◌, ℕ, zero, suc, ◌+◌, ◌-◌, ◌*◌, ◌<◌, ◌≤◌, Bool, true, false, cond, ◌||◌, ltb, List, [], ◌∷◌, length, get_or, drop, Some, None, Ok, Err, Option, Result, sym, refl, ap, ◌∙◌, inl, inr, add-zero, arith}
+use Rattle.std.proofs.Common.{◌≡◌, ℕ, suc, ◌+◌, ◌-◌, ◌*◌, ◌<◌, ◌≤◌, true, false, cond, ltb, List, [], ◌∷◌, length, get_or, drop, Some, None, Ok, Err, Result, sym, refl, ap, ◌∙◌, inl, inr, arith}
 use Rattle.std.proofs.lemmas.Bool.{cond-true, cond-false, cases_Bool, lt-ltb, or_left, or_right}
 use Rattle.std.proofs.lemmas.List.{drop-drop, length-drop, drop_all}
 use Rattle.record_format.specs.Items.{Item}
 use Rattle.record_format.specs.Written.{first_body}
-use Rattle.record_format.specs.Reading.{two_of, pairs_in, item_in, size_in, entry_of, stands, item_at, before, decoded_from, headless, decoded, count_of}
+use Rattle.record_format.specs.Reading.{two_of, item_in, size_in, entry_of, stands, item_at, before, decoded_from, decoded, count_of}
 use Rattle.record_format.proofs.Back.{decoded_at}
 use Rattle.record_format.proofs.Forth.{length-pairs_in, stands_parts}
 

@@ -1,6 +1,6 @@
 -- The items of a record one after the other: played over a board, and gathered.
-use Rattle.std.proofs.Common.{◌≡◌, ℕ, ◌+◌, ◌<◌, ◌≤◌, List, [], ◌∷◌, ◌++◌, length, get_or, take, drop, Some, None, sym, ap, ◌∙◌, arith}
-use Rattle.std.proofs.lemmas.List.{drop_all, take_all, append_assoc, append_cancel_right, take-append-drop, map_push}
+use Rattle.std.proofs.Common.{◌≡◌, ℕ, ◌+◌, ◌<◌, ◌≤◌, List, [], ◌∷◌, ◌++◌, length, take, drop, Some, None, sym, ap, ◌∙◌, arith}
+use Rattle.std.proofs.lemmas.List.{drop_all, append_assoc, append_cancel_right, take-append-drop, map_push}
 use Rattle.tickets.specs.Boards.{Board}
 use Rattle.tickets.specs.WriteSets.{play}
 use Rattle.record_format.specs.Items.{Item, play_all}

@@ -1,10 +1,10 @@
 -- What an implementation of a store needs of its meaning. Assumes nothing.
-use Rattle.std.proofs.Common.{◌≡◌, ℕ, zero, suc, ◌+◌, ◌<◌, ◌≤◌, Bool, true, false, cond, eqb, ltb, List, [], ◌∷◌, map, length, get_or, set, Some, None, Ok, Err, Option, Result, sym, refl, ap, ◌∙◌, subst, arith}
+use Rattle.std.proofs.Common.{◌≡◌, ℕ, zero, suc, ◌+◌, ◌<◌, Bool, true, false, cond, eqb, ltb, List, [], ◌∷◌, length, get_or, set, Some, None, Ok, Err, Option, Result, sym, refl, ap, ◌∙◌, arith}
 use Rattle.std.proofs.lemmas.Bool.{eq-eqb, ne_eqb}
 use Rattle.std.proofs.lemmas.List.{set-get_or}
 use Rattle.stores.specs.declared.fault.StoreFault.{StoreFault}
-use Rattle.stores.specs.declared.fault.StoreFault.TheVariants.{NoPlace, PlaceClosed, Overtaken}
-use Rattle.stores.specs.Model.{StoreModel, Place, place_at, seat_at, held, with_place, leaves, kept, write_at, write_after, bind, or_else, played, played_from, own_count, clashes, commit_answer, commit_after, landed}
+use Rattle.stores.specs.declared.fault.StoreFault.TheVariants.{NoPlace, Overtaken}
+use Rattle.stores.specs.Model.{StoreModel, Place, place_at, held, with_place, leaves, kept, write_at, write_after, bind, or_else, played, played_from, own_count, clashes, commit_answer, commit_after, landed}
 
 seated : (b : Bool) (o : Option Place) (x : Place) → cond b (held o) (Err NoPlace) ≡ Ok x → o ≡ Some x
 seated true (Some y) x e = cc

@@ -1,8 +1,8 @@
 -- The pairs of two arrays, side by side: how many, which comes next, and what one more does.
-use Rattle.std.proofs.Common.{◌≡◌, ℕ, zero, suc, ◌+◌, ◌-◌, ◌<◌, ◌≤◌, ◌≢◌, List, [], ◌∷◌, ◌++◌, length, get_or, take, drop, set, sym, refl, ap, ◌∙◌, inl, inr, arith, below_more}
+use Rattle.std.proofs.Common.{◌≡◌, ℕ, ◌+◌, ◌-◌, ◌<◌, ◌≤◌, ◌≢◌, List, [], ◌∷◌, ◌++◌, length, get_or, take, drop, set, sym, refl, ap, ◌∙◌, inl, inr, arith, below_more}
 use Rattle.std.specs.List.{zip}
 use Rattle.std.proofs.lemmas.Bool.{cases_eq}
-use Rattle.std.proofs.lemmas.List.{drop_more, drop_all, length-take-le, get_or-take, take_more_set, get_or-set_same, get_or-set_other, length-append}
+use Rattle.std.proofs.lemmas.List.{drop_more, drop_all, length-take-le, get_or-take, take_more_set, get_or-set_same, get_or-set_other}
 use Rattle.std.proofs.lemmas.Slice.Zip.{length-zip, get_or-zip}
 use Rattle.tickets.specs.Meaning.{pairs_of}
 

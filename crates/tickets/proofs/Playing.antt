@@ -1,10 +1,10 @@
 -- What playing write sets does to a board, object by object.
-use Rattle.std.proofs.Common.{◌≡◌, ℕ, zero, suc, ◌%◌, ◌^◌, ◌<◌, ◌≤◌, Bool, true, false, cond, ◌&&◌, ◌||◌, eqb, ltb, leb, ◌≢◌, List, [], ◌∷◌, length, get_or, set, is_some, Some, None, Option, sym, refl, ap, ◌∙◌, inl, inr, arith, lit<}
+use Rattle.std.proofs.Common.{◌≡◌, ℕ, suc, ◌%◌, ◌^◌, ◌<◌, Bool, true, false, cond, eqb, ltb, leb, ◌≢◌, [], ◌∷◌, length, set, is_some, Some, None, Option, sym, refl, ap, ◌∙◌, inl, inr, arith, lit<}
 use Rattle.std.specs.List.{AllByRecursion as All}
 use Rattle.std.proofs.ByRecursion.{All-get_or}
-use Rattle.std.proofs.lemmas.Bool.{and_parts, leb-true, cases_eq, eq-eqb, ne_eqb, cond-true, cond-false, or_cases, or_left, or_right, cases_Bool, both_ways}
+use Rattle.std.proofs.lemmas.Bool.{and_parts, leb-true, cases_eq, eq-eqb, ne_eqb, cond-true, cond-false, or_cases, or_left, or_right, both_ways}
 use Rattle.std.proofs.lemmas.List.{set_comm, length-set, get_or-set_same, get_or-set_other, ext_get_or}
-use Rattle.tickets.specs.Boards.{Board, value, tops, top}
+use Rattle.tickets.specs.Boards.{Board, value, tops}
 use Rattle.tickets.specs.WriteSets.{Pairs, rising, lookup, stands, shares, play, over}
 use Rattle.tickets.specs.Laws.{Common, PlayingLaws, SharingLaws, TopsFit}
 

@@ -1,6 +1,6 @@
 -- The pairs of a write set: what the invariant of its type says of them.
-use Rattle.std.proofs.Common.{◌≡◌, ℕ, zero, suc, ◌+◌, ◌-◌, ◌<◌, ◌≤◌, true, [], ◌∷◌, length, get_or, drop, ap, ◌∙◌, arith}
-use Rattle.tickets.specs.WriteSets.{Pairs, rising}
+use Rattle.std.proofs.Common.{◌≡◌, ℕ, suc, ◌+◌, ◌-◌, ◌<◌, ◌≤◌, true, [], ◌∷◌, length, get_or, drop, ap, ◌∙◌, arith}
+use Rattle.tickets.specs.WriteSets.{rising}
 use Rattle.tickets.specs.Meaning.{pairs, pairs_of}
 use Rattle.tickets.specs.declared.write_set.WriteSet.{WriteSet}
 use Rattle.tickets.proofs.Pairs as arrays

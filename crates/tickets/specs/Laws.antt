@@ -1,5 +1,5 @@
 -- What every layer above may lean on, whatever the write sets are.
-use Rattle.std.specs.Prelude.{◌≡◌, ℕ, ◌^◌, ◌<◌, Bool, true, false, ◌↔◌, length}
+use Rattle.std.specs.Prelude.{◌≡◌, ℕ, ◌^◌, ◌<◌, true, false, ◌↔◌, length}
 use Rattle.tickets.specs.Boards.{Board, value, top}
 use Rattle.tickets.specs.WriteSets.{Pairs, lookup, stands, shares, play, over}
 

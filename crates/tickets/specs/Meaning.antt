@@ -1,5 +1,5 @@
 -- What the types of the code mean.
-use Rattle.std.specs.Prelude.{ℕ, cond, List, map, take, Some, None, Option}
+use Rattle.std.specs.Prelude.{ℕ, cond, List, take, Some, None, Option}
 use Rattle.std.specs.List.{zip}
 use Rattle.std.specs.Option.{option_map}
 use Rattle.tickets.specs.Boards as boards

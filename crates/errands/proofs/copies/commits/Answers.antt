@@ -1,5 +1,5 @@
 -- Where there is no such replica, no commit wrote.
-use Rattle.std.proofs.Common.{◌≡◌, Ok, refl, ap, ◌∙◌}
+use Rattle.std.proofs.Common.{Ok, refl, ap, ◌∙◌}
 use Rattle.std.specs.Result.{result_unwrap_or}
 use Rattle.stores.specs.Model.{StoreModel}
 use Rattle.errands.proofs.Asked.{asked_or}

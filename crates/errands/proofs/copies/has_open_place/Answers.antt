@@ -1,5 +1,5 @@
 -- No store has a place past the last that is looked at.
-use Rattle.std.proofs.Common.{◌≡◌, ℕ, ◌+◌, ◌≤◌, ◌||◌, length, drop, sym, refl, ap, ◌∙◌, inl, inr, arith}
+use Rattle.std.proofs.Common.{◌+◌, ◌||◌, drop, sym, ap, ◌∙◌, arith}
 use Rattle.banks.specs.Model.{store_at}
 use Rattle.errands.specs.Copies.{any_open}
 use Rattle.errands.proofs.Asked.{most_places}

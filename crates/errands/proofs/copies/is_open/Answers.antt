@@ -1,5 +1,5 @@
 -- Where there is no such place, none is open.
-use Rattle.std.proofs.Common.{◌≡◌, false, get_or, is_some, None, refl, ap, ◌∙◌}
+use Rattle.std.proofs.Common.{false, get_or, is_some, None, refl, ap, ◌∙◌}
 use Rattle.std.specs.Result.{result_unwrap_or}
 use Rattle.stores.specs.Model.{StoreModel, open_answer}
 use Rattle.errands.proofs.Asked.{asked_or}

@@ -1,5 +1,5 @@
 -- Where there is no such replica, no board has a value.
-use Rattle.std.proofs.Common.{◌≡◌, refl, ap, ◌∙◌}
+use Rattle.std.proofs.Common.{refl, ap, ◌∙◌}
 use Rattle.std.specs.Result.{result_unwrap_or}
 use Rattle.stores.specs.Model.{StoreModel, value_answer}
 use Rattle.tickets.specs.Boards.{value}

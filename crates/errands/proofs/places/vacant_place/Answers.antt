@@ -1,5 +1,5 @@
 -- Going up to the first place that is not open.
-use Rattle.std.proofs.Common.{◌≡◌, sym, ◌∙◌}
+use Rattle.std.proofs.Common.{sym, ◌∙◌}
 use Rattle.errands.proofs.Seats.{vacant_none, vacant_step}
 use Rattle.errands.proofs.places.vacant_place.Goals as goal
 

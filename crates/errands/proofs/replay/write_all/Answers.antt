@@ -1,5 +1,5 @@
 -- Each pair written in turn; the first refusal ends it.
-use Rattle.std.proofs.Common.{◌≡◌, ◌<◌, length, Err, sym, refl, ap, ◌∙◌, arith}
+use Rattle.std.proofs.Common.{Err, sym, ap, ◌∙◌, arith}
 use Rattle.std.proofs.lemmas.Result.{err_from_is_err_and}
 use Rattle.tickets.specs.Meaning.{pairs}
 use Rattle.tickets.proofs.Sets.{length_pairs}

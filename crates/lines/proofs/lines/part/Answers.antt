@@ -1,4 +1,4 @@
-use Rattle.std.proofs.Common.{◌≡◌, ◌<◌, ◌≤◌, length, drop, sym, ap, ◌∙◌, arith, true-eqb, false-eqb}
+use Rattle.std.proofs.Common.{◌<◌, length, drop, sym, ap, ◌∙◌, arith, true-eqb, false-eqb}
 use Rattle.std.proofs.lemmas.List.{nil_from_length, take_rest}
 use Rattle.lines.specs.Fronts.{inside}
 use Rattle.lines.proofs.Fronts.{front_is_short}

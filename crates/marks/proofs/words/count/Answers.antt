@@ -1,5 +1,5 @@
 -- Each word adds the objects that it marks.
-use Rattle.std.proofs.Common.{◌≡◌, ◌+◌, ◌*◌, ◌≤◌, get_or, refl, ap, ◌∙◌, arith, rules}
+use Rattle.std.proofs.Common.{◌+◌, ◌*◌, ◌≤◌, get_or, refl, ap, ◌∙◌, arith, rules}
 use lib.Count.{ones}
 use Rattle.std.proofs.lemmas.Nat.{ones-le}
 use Rattle.marks.specs.Marked.{marked_in, count_below}

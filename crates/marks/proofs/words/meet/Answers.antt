@@ -1,5 +1,5 @@
 -- Two words that share a bit mark one object both; where none do, no object is marked in both.
-use Rattle.std.proofs.Common.{◌≡◌, sym, arith}
+use Rattle.std.proofs.Common.{sym, arith}
 use Rattle.marks.specs.Marked.{marked_in, both}
 use Rattle.marks.proofs.AnyWords.{meet_in_this_word, no_meeting_in_one_word_more}
 use Rattle.marks.proofs.Scans.{any_nowhere}

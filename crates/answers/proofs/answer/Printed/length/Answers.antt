@@ -1,5 +1,5 @@
 use Rattle.std.proofs.Common.{length, ap, arith}
-use Rattle.answers.specs.Printing.{words, printed}
+use Rattle.answers.specs.Printing.{words}
 use Rattle.answers.proofs.Lengths.{length-printed, length-refusal}
 use Rattle.answers.proofs.answer.Printed.length.Goals as goal
 

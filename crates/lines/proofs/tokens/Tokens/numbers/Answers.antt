@@ -1,6 +1,5 @@
-use Rattle.std.proofs.Common.{◌+◌, ◌-◌, length, take, Some, sym, ap, ◌∙◌, arith, length-set, true-eqb, false-eqb}
+use Rattle.std.proofs.Common.{◌+◌, ◌-◌, take, Some, sym, ap, ◌∙◌, arith, length-set, true-eqb, false-eqb}
 use Rattle.std.proofs.lemmas.List.{length-replicate, take_all}
-use Rattle.lines.specs.Reading.{numbers_in}
 use Rattle.lines.specs.Tokens.{left_of}
 use Rattle.lines.proofs.Numbers.{no_numbers_yet, one_number_more, no_number_there, all_numbers_read, something_is_left}
 use Rattle.lines.proofs.tokens.Tokens.numbers.Goals as goal

@@ -1,5 +1,5 @@
 -- The words answer for the set.
-use Rattle.std.proofs.Common.{◌≡◌, ◌*◌, length, sym, ap, ◌∙◌, arith}
+use Rattle.std.proofs.Common.{◌≡◌, ◌*◌, length, sym, ◌∙◌, arith}
 use Rattle.marks.specs.Marked.{count_below}
 use Rattle.marks.proofs.Laws.{in_its_words}
 use Rattle.marks.proofs.marks.Marks.count.Goals as goal

@@ -1,5 +1,5 @@
 -- The words answer for the set.
-use Rattle.std.proofs.Common.{◌≡◌, sym, ◌∙◌, arith}
+use Rattle.std.proofs.Common.{sym, ◌∙◌, arith}
 use Rattle.marks.specs.Marked.{either}
 use Rattle.marks.proofs.Laws.{in_its_words}
 use Rattle.marks.proofs.marks.Marks.join.Goals as goal

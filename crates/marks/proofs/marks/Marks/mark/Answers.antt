@@ -1,5 +1,5 @@
 -- The words answer for the set.
-use Rattle.std.proofs.Common.{◌≡◌, ◌*◌, true, length, sym, ap, ◌∙◌, arith}
+use Rattle.std.proofs.Common.{◌≡◌, ◌*◌, true, length, sym, ◌∙◌, arith}
 use Rattle.marks.specs.Marked.{with_mark}
 use Rattle.marks.proofs.Laws.{in_its_words}
 use Rattle.marks.proofs.marks.Marks.mark.Goals as goal

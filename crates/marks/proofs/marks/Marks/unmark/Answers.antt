@@ -1,5 +1,5 @@
 -- The words answer for the set.
-use Rattle.std.proofs.Common.{◌≡◌, ◌*◌, false, length, sym, ap, ◌∙◌, arith}
+use Rattle.std.proofs.Common.{◌≡◌, ◌*◌, false, length, sym, ◌∙◌, arith}
 use Rattle.marks.specs.Marked.{with_mark}
 use Rattle.marks.proofs.Laws.{in_its_words}
 use Rattle.marks.proofs.marks.Marks.unmark.Goals as goal

@@ -1,7 +1,6 @@
-use Rattle.std.proofs.Common.{◌≡◌, ◌+◌, get_or, drop, sym, ap, ◌∙◌, arith}
+use Rattle.std.proofs.Common.{get_or, sym, ap, ◌∙◌}
 use Rattle.std.proofs.lemmas.Bool.{cond-true, cond-false, eq-eqb, ne_eqb}
 use Rattle.tickets.specs.WriteSets.{Pairs, lookup}
-use Rattle.tickets.specs.Meaning.{pairs}
 use Rattle.tickets.proofs.Sets.{next_pair, no_pair}
 use Rattle.tickets.proofs.write_set.WriteSet.lookup.Goals as goal
 

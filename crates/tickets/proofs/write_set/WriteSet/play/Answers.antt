@@ -1,4 +1,4 @@
-use Rattle.std.proofs.Common.{◌≡◌, suc, get_or, sym, ap, ◌∙◌, arith}
+use Rattle.std.proofs.Common.{suc, get_or, sym, ap, ◌∙◌, arith}
 use Rattle.tickets.specs.WriteSets.{Pairs, play}
 use Rattle.tickets.proofs.Playing.{play_first}
 use Rattle.tickets.proofs.Sets.{next_pair, no_pair, rest_rises}
