@@ -26,6 +26,7 @@ use Rattle.law.specs.Sound.{Middle}
 use Rattle.refinement.specs.Answers.{answered}
 use Rattle.refinement.specs.Worlds.{numbered_of, world_of, plain_of}
 use Rattle.refinement.specs.Sound.{Sound}
+use Rattle.refinement.specs.Tops.{Within, BoardWithin}
 use Rattle.middleware.specs.declared.fault.Asked.{Asked}
 use Rattle.middleware.specs.Listing.{result_listed, asked_to}
 use Rattle.middleware.specs.Records.{item_of_numbered, items_of_plain, in_room, laid_over, Records, WritesRecord}
@@ -40,13 +41,13 @@ none_unfit (y ∷ N) n h =
     all_fit n (item_of_numbered y) (map item_of_numbered N) (ap (λ k. fits k (item_of_numbered y)) (sym here) ∙ h 0 (omega arith))
     (none_unfit N (n + 1) (λ i l. let on : n + 1 + i ≡ n + suc i = omega arith in ap (λ k. fits k (item_of_numbered (get_or N i no_set))) on ∙ h (suc i) (omega arith)))
 
-module _ (p : Plain) (q : Orderly p) (eight : length p.boards ≤ 8) where
+module _ (p : Plain) (q : Orderly p) (eight : length p.boards ≤ 8) (low : Within p) where
   may_stand : (n : ℕ) → 1 ≤ n → n ≤ length p.sets → fits n (item_of_numbered (numbered p.sets n)) ≡ true
   may_stand n l h =
       let y = numbered p.sets n in
       let f = q.sets n l h in
       and_from (leb y.home 7) _ (le-leb y.home 7 (omega (arith, f.home)))
-      (and_from (ltb y.s n) _ (lt-ltb y.s n f.below) (and_from (is_write_set y.pairs) (within_tops y.pairs) f.fits f.tops))
+      (and_from (ltb y.s n) _ (lt-ltb y.s n f.below) (and_from (is_write_set y.pairs) (within_tops y.pairs) f.fits (low.sets (n - 1))))
 
   orderly_run : Run (items_of_plain (PlainBoard.opened p))
   orderly_run =
@@ -94,10 +95,10 @@ made_to what P R (Err e) f h = tt
 
 -- a world that is opened, or not
 module _ (w : World) (us : List SetModel) (is : items_of_sets us ≡ map item_of_numbered w.sets) (what : Asked) (b b' : List ℕ) (q : Result ℕ Reason) (reads : IfOk q (λ n. decoded (take n b') ≡ Ok (items_of_sets us))) where
-  of_opened : Coupled w → q ≡ carried (write_result (items_of_sets us) (length b)) → b' ≡ write_bytes (items_of_sets us) b → Records (PlainBoard.opened (world_plain w)) b (asked_to what q) b'
-  of_opened c answer bytes =
+  of_opened : Coupled w → Within (world_plain w) → q ≡ carried (write_result (items_of_sets us) (length b)) → b' ≡ write_bytes (items_of_sets us) b → Records (PlainBoard.opened (world_plain w)) b (asked_to what q) b'
+  of_opened c low answer bytes =
       let its = map item_of_numbered w.sets in
-      let run = orderly_run (world_plain w) c.orderly (omega (arith, length-map w.bank board_of, c.eight)) in
+      let run = orderly_run (world_plain w) c.orderly (omega (arith, length-map w.bank board_of, c.eight)) low in
       record {
         answer = listed_to what q ∙ ap (answered told) (answer ∙ ap (λ (xs : List Item). carried (write_result xs (length b))) is) ∙ answer_of_run its run (length b);
         bytes = bytes ∙ ap (λ (xs : List Item). write_bytes xs b) is ∙ bytes_of_run its run b;
@@ -112,12 +113,12 @@ module _ (w : World) (us : List SetModel) (is : items_of_sets us ≡ map item_of
         reads_back = subst (λ (x : Result ℕ Reason). IfOk (asked_to what x) (λ n. decoded (take n b') ≡ Ok [])) (sym answer) tt;
       }
 
-  of_board : (opened : Bool) → law.Sound (cond opened (Middle.opened w) (Middle.unopened w)) → q ≡ cond opened (carried (write_result (items_of_sets us) (length b))) (Err NotOpened) → b' ≡ cond opened (write_bytes (items_of_sets us) b) b → Records (law.plain_of (cond opened (Middle.opened w) (Middle.unopened w))) b (asked_to what q) b'
-  of_board true c answer bytes = of_opened c answer bytes
-  of_board false c answer bytes = of_unopened answer bytes
+  of_board : (opened : Bool) → law.Sound (cond opened (Middle.opened w) (Middle.unopened w)) → BoardWithin (law.plain_of (cond opened (Middle.opened w) (Middle.unopened w))) → q ≡ cond opened (carried (write_result (items_of_sets us) (length b))) (Err NotOpened) → b' ≡ cond opened (write_bytes (items_of_sets us) b) b → Records (law.plain_of (cond opened (Middle.opened w) (Middle.unopened w))) b (asked_to what q) b'
+  of_board true c low answer bytes = of_opened c low answer bytes
+  of_board false c low answer bytes = of_unopened answer bytes
 
 pub writes_record : (m : Machine) (what : Asked) (b b' : List ℕ) (q : Result ℕ Reason) → q ≡ recording m (length b) → b' ≡ recorded m b → IfOk q (λ n. decoded (take n b') ≡ Ok (items_of_sets m.sets)) → WritesRecord m b (asked_to what q) b'
-writes_record m what b b' q answer bytes reads sound = of_board (world_of m) m.sets (same_items m.sets) what b b' q reads m.opened sound.coupled answer bytes
+writes_record m what b b' q answer bytes reads sound low = of_board (world_of m) m.sets (same_items m.sets) what b b' q reads m.opened sound.coupled low answer bytes
 
 -- what is answered is never more than the buffer has
 in_the_room : (needed room : ℕ) (b : Bool) → leb needed room ≡ b → IfOk (carried (cond b (Ok needed) (Err (BufferShort needed)))) (λ n. n ≤ room)

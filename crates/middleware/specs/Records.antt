@@ -11,6 +11,7 @@ use Rattle.law.specs.Opening.PlainBoard.{unopened, opened}
 use Rattle.machine.specs.Machine.{Machine}
 use Rattle.refinement.specs.Worlds.{plain_of}
 use Rattle.refinement.specs.Sound.{Sound}
+use Rattle.refinement.specs.Tops.{BoardWithin}
 use Rattle.middleware.specs.declared.fault.BoardFault.{BoardFault}
 use Rattle.middleware.specs.Listing.{result_listed}
 
@@ -47,6 +48,6 @@ pub record Records (p : PlainBoard) (b : List ℕ) (r : Result ℕ BoardFault) (
   pub bytes : b' ≡ record_bytes p b
   pub reads_back : IfOk r (λ n. decoded (take n b') ≡ Ok (items_of_plain p))
 
--- over a sound middleware
+-- over a sound middleware whose values are within their tops, as opening it and every call leave them
 abbrev pub WritesRecord : Machine → List ℕ → Result ℕ BoardFault → List ℕ → Type 0
-WritesRecord m b r b' = Sound m → Records (plain_of m) b r b'
+WritesRecord m b r b' = Sound m → BoardWithin (plain_of m) → Records (plain_of m) b r b'

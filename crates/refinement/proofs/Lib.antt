@@ -16,6 +16,7 @@ pub mod Draining
 pub mod Questions
 pub mod Calls
 pub mod Refusals
+pub mod Tops
 pub mod Opening
 pub mod Opened
 pub mod Begun

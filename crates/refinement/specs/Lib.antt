@@ -4,5 +4,6 @@ pub mod Answers
 pub mod Steps
 pub mod Sound
 pub mod Refusals
+pub mod Tops
 pub mod Places
 pub mod Promise

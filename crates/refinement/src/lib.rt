@@ -5,6 +5,7 @@ ghost use Rattle.refinement.specs.Places.{EveryPlace};
 ghost use Rattle.refinement.specs.Promise.{EveryQueue, OwnBoards};
 ghost use Rattle.refinement.specs.Refusals.{EveryOpeningStays, EveryRefusalStays};
 ghost use Rattle.refinement.specs.Sound.{EveryMaking, EveryOpening, EveryCall, NoStoreFault};
+ghost use Rattle.refinement.specs.Tops.{EveryOpeningWithin, EveryCallWithin};
 
 /// A machine just made is sound. Opening a sound machine, and every call of it, opened or not, gives the plain board's answer,
 /// the plain board after it, and a sound machine again. None meets a store's fault. The place that a transaction gets was not open.
@@ -23,6 +24,14 @@ pub fn every_call_follows() -> bool
 pub fn every_refusal_stays() -> bool
     ensures opening { EveryOpeningStays }
     ensures calls { EveryRefusalStays }
+{
+    true
+}
+
+/// What a plain board holds, own writes and numbered write sets, stays within the tops of its objects.
+pub fn every_top_is_kept() -> bool
+    ensures opening { EveryOpeningWithin }
+    ensures calls { EveryCallWithin }
 {
     true
 }

@@ -15,5 +15,5 @@ returns g c =
     let queue = c.args.queue.now in
     let h = past queue (vec_items c.serve.new.answers) [] in
     let last = held stores c.serve.new.self in
-    let kept = served ms (g.met.B.Bank.lawful c.args.bank) queue (held stores c.in-Ok-new.board) (held stores c.open.new.self) c.in-Ok-new.ensures.made done c.in-default-open.ensures.law h last refl c.serve.ensures.law in
-    record { law = subst (λ (k : List StoreModel). Promised (law_bank ms) queue done h (law_bank k)) (sym c.into-bank-2.ensures.answer) kept; names = c.serve.ensures.names }
+    let kept = served ms (g.met.B.Bank.lawful c.args.bank) queue (held stores c.in-Ok-new.board) (held stores c.open.new.self) c.in-Ok-new.ensures.made done c.in_default-open.ensures.law h last refl c.serve.ensures.law in
+    record { law = subst (λ (k : List StoreModel). Promised (law_bank ms) queue done h (law_bank k)) (sym c.into_bank-2.ensures.answer) kept; names = c.serve.ensures.names }

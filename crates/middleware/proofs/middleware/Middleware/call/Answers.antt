@@ -28,8 +28,8 @@ returns-in-State g c =
 pub returns-in-WriteSet : goal.returns-in-WriteSet
 returns-in-WriteSet g c =
     let m = held g.B.Bank.stores c.args.self.now in
-    let a = listed c.write-set-in-WriteSet.result in
-    record { law = subst (λ (x : Call). Serves x m a m) (sym c.in-WriteSet.is) (serves_told (WriteSet c.in-WriteSet.n) m _ a refl c.write-set-in-WriteSet.ensures.answer c.write-set.ensures.law); stays = stays_told m a; names = subst (λ (x : Call). Carries x c.write-set-in-WriteSet.result) (sym c.in-WriteSet.is) (carried (WriteSet c.in-WriteSet.n) _ _ c.write-set-in-WriteSet.ensures.refusal c.write-set.ensures.names) }
+    let a = listed c.write_set-in-WriteSet.result in
+    record { law = subst (λ (x : Call). Serves x m a m) (sym c.in-WriteSet.is) (serves_told (WriteSet c.in-WriteSet.n) m _ a refl c.write_set-in-WriteSet.ensures.answer c.write_set.ensures.law); stays = stays_told m a; names = subst (λ (x : Call). Carries x c.write_set-in-WriteSet.result) (sym c.in-WriteSet.is) (carried (WriteSet c.in-WriteSet.n) _ _ c.write_set-in-WriteSet.ensures.refusal c.write_set.ensures.names) }
 
 pub returns-in-Applied : goal.returns-in-Applied
 returns-in-Applied g c =

@@ -10,4 +10,4 @@ use Rattle.middleware.proofs.middleware.Middleware.give_up.Goals as goal
 pub returns : goal.returns
 returns g c =
     let before = held g.B.Bank.stores c.args.self.now in
-    record { names = named _ _ _ c.asked.ensures.answer; law = serves quiet (GiveUp c.args.t) before _ _ c.asked.ensures.answer (seen g.B.Bank.stores c.give-up.new.self) (giving_up before c.args.t) refl c.give-up.ensures.answer c.give-up.ensures.after; stays = stays quiet (GiveUp c.args.t) before _ _ c.asked.ensures.answer (seen g.B.Bank.stores c.give-up.new.self) (giving_up before c.args.t) refl c.give-up.ensures.answer c.give-up.ensures.after }
+    record { names = named _ _ _ c.asked.ensures.answer; law = serves quiet (GiveUp c.args.t) before _ _ c.asked.ensures.answer (seen g.B.Bank.stores c.give_up.new.self) (giving_up before c.args.t) refl c.give_up.ensures.answer c.give_up.ensures.after; stays = stays quiet (GiveUp c.args.t) before _ _ c.asked.ensures.answer (seen g.B.Bank.stores c.give_up.new.self) (giving_up before c.args.t) refl c.give_up.ensures.answer c.give_up.ensures.after }

@@ -12,8 +12,8 @@ pub returns : goal.returns
 returns g c =
     let before = held g.B.Bank.stores c.args.self.now in
     let after = seen g.B.Bank.stores c.open.new.self in
-    let said = c.asked-to.ensures.answer in
-    let answer : result_listed quiet c.asked-to.result ≡ (machine_open before).0 = ap (result_listed quiet) said ∙ listed_as quiet Open c.open.result ∙ ap (answered quiet) c.open.ensures.answer in
+    let said = c.asked_to.ensures.answer in
+    let answer : result_listed quiet c.asked_to.result ≡ (machine_open before).0 = ap (result_listed quiet) said ∙ listed_as quiet Open c.open.result ∙ ap (answered quiet) c.open.ensures.answer in
     record {
       names = named _ _ _ said;
       law = opens before after _ answer c.open.ensures.after;

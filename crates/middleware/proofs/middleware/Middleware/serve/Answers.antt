@@ -15,10 +15,10 @@ loop-call-preserved g c =
     let inv = c.loop-call.invariant in
     let i = c.loop-call.call-index in
     let long : length (vec_items c.loop-call.answers) ≡ i = sym c.loop-call.answers.ok.0 ∙ inv.0 in (
-      omega (arith, c.push-reserved.ensures.len, inv.0),
-      omega (arith, c.push-reserved.ensures.capacity, inv.1),
-      runs_next (m c.args.self.now) (m c.loop-call.self) (m c.call.new.self) c.args.queue.now i (vec_items c.loop-call.answers) (vec_items c.push-reserved.new.self) _ c.call.result c.loop-call-test.true long c.push-reserved.ensures.items inv.2 c.call.ensures.law,
-      carry_next c.args.queue.now i (vec_items c.loop-call.answers) (vec_items c.push-reserved.new.self) _ c.call.result c.loop-call-test.true long c.push-reserved.ensures.items inv.3 c.call.ensures.names,
+      omega (arith, c.push_reserved.ensures.len, inv.0),
+      omega (arith, c.push_reserved.ensures.capacity, inv.1),
+      runs_next (m c.args.self.now) (m c.loop-call.self) (m c.call.new.self) c.args.queue.now i (vec_items c.loop-call.answers) (vec_items c.push_reserved.new.self) _ c.call.result c.loop-call-test.true long c.push_reserved.ensures.items inv.2 c.call.ensures.law,
+      carry_next c.args.queue.now i (vec_items c.loop-call.answers) (vec_items c.push_reserved.new.self) _ c.call.result c.loop-call-test.true long c.push_reserved.ensures.items inv.3 c.call.ensures.names,
     )
 
 pub returns : goal.returns
