@@ -8,4 +8,4 @@ pub returns : goal.returns
 returns g c =
     let stores = g.B.Bank.stores in
     let fit : unfit c.args.script.now (length c.args.buffer.now) ≡ None = search rules in
-    record { law = played (stores c.args.bank) (g.met.B.Bank.lawful c.args.bank) (held stores c.in-Ok.board) (held stores c.open.new.self) c.in-Ok.ensures.made c.in-default-open.ensures.law _ _ _ _ (held stores c.serve-lines-length.new.board) _ fit c.serve-lines-length.ensures.law c.into-bank-2.ensures.answer }
+    record { law = played (stores c.args.bank) (g.met.B.Bank.lawful c.args.bank) (held stores c.in-Ok.board) (held stores c.open.new.self) c.in-Ok.ensures.made c.in_default-open.ensures.law _ _ _ _ (held stores c.serve_lines-length.new.board) _ fit c.serve_lines-length.ensures.law c.into_bank-2.ensures.answer }
