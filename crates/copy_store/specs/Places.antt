@@ -1,5 +1,5 @@
 -- What a place of a copy store means.
-use Rattle.std.specs.Prelude.{ℕ, Bool, true, false, cond, Some, None, Option, slice_index}
+use Rattle.std.specs.Prelude.{ℕ, cond, Some, None, Option, slice_index}
 use Rattle.marks.specs.Marked.{marked}
 use Rattle.stores.specs.Model as model
 use Rattle.copy_store.specs.declared.place.Place.{Place}

@@ -1,20 +1,18 @@
 -- The edges, proved from the definitions.
-use Rattle.std.proofs.Common.{◌≡◌, ℕ, zero, suc, ◌<◌, ◌≤◌, min, Bool, true, false, cond, ◌&&◌, ◌||◌, ltb, leb, List, [], ◌∷◌, length, sym, refl, ap, ◌∙◌, inl, inr, arith, lit<, lit≤}
-use Rattle.std.proofs.lemmas.Bool.{and_parts, lt-ltb, le-leb, le-ltb, or_left, or_from, cond-true, cond-false, leb-true, ltb-true, cases_eq}
+use Rattle.std.proofs.Common.{◌≡◌, ℕ, zero, suc, ◌<◌, ◌≤◌, min, Bool, true, false, cond, ltb, leb, [], length, sym, refl, ap, ◌∙◌, inl, inr, arith, lit<, lit≤}
+use Rattle.std.proofs.lemmas.Bool.{and_parts, lt-ltb, le-leb, le-ltb, or_left, or_from, cond-false, leb-true, ltb-true, cases_eq}
 use Rattle.calls.specs.declared.call.Call.{Call}
 use Rattle.calls.specs.declared.call.Call.TheVariants.{Read, Write, Commit, Apply, Drain}
 use Rattle.tickets.specs.Boards.{Board, top}
 use Rattle.tickets.specs.WriteSets.{Pairs, stands}
 use Rattle.law.specs.Numbers.{up_to, lowest, or_else, count}
 use Rattle.law.specs.Writes.{room, is_empty}
-use Rattle.law.specs.History.{Answer}
 use Rattle.law.specs.History.Answer.{done, told, read_only, aborts, refused}
 use Rattle.law.specs.Plain.{Plain, TransactionState, Outcome, transaction, check, on_live}
-use Rattle.law.specs.Plain.TransactionState.{live}
 use Rattle.law.specs.Transactions.{clashes, read_of, write_of, commit_of, verdict}
 use Rattle.law.specs.Applications.{lacks}
 use Rattle.law.specs.Steps.{step}
-use Rattle.law.specs.Opening.{PlainBoard, board_step}
+use Rattle.law.specs.Opening.{board_step}
 use Rattle.law.specs.Opening.PlainBoard.{opened}
 use Rattle.edges.specs.Edges.{OpenWith, answer, Refused, Edges}
 

@@ -1,5 +1,5 @@
 -- The edges of the rules, each under a name that says it.
-use Rattle.std.specs.Prelude.{◌≡◌, ℕ, ◌<◌, ◌≤◌, true, false, List, [], ◌∷◌, length, Ok, Err}
+use Rattle.std.specs.Prelude.{◌≡◌, ℕ, ◌<◌, ◌≤◌, true, false, List, [], ◌∷◌, length, Err}
 use Rattle.calls.specs.declared.call.Call.{Call}
 use Rattle.calls.specs.declared.call.Call.TheVariants.{Read, Write, Commit, Apply, Drain}
 use Rattle.tickets.specs.Boards.{Board, top}
@@ -11,7 +11,7 @@ use Rattle.law.specs.History.Answer.{done, told, read_only, aborts, refused}
 use Rattle.law.specs.Plain.{Plain, transaction}
 use Rattle.law.specs.Plain.TransactionState.{live}
 use Rattle.law.specs.Transactions.{clashes}
-use Rattle.law.specs.Opening.{PlainBoard, board_step}
+use Rattle.law.specs.Opening.{board_step}
 use Rattle.law.specs.Opening.PlainBoard.{opened}
 use Rattle.std.specs.List.{AllByRecursion as All}
 use Rattle.record_format.specs.Items.{Item, Run}

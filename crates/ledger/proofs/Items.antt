@@ -1,5 +1,5 @@
 -- What stands at a place of the numbered write sets, as a loop over them finds it.
-use Rattle.std.proofs.Common.{◌≡◌, ℕ, ◌+◌, ◌-◌, ◌<◌, ◌≤◌, min, Bool, false, List, map, length, get_or, set, vec_items, vec_len, sym, refl, ap, ◌∙◌, arith}
+use Rattle.std.proofs.Common.{◌≡◌, ℕ, ◌+◌, ◌-◌, ◌<◌, ◌≤◌, min, Bool, false, List, map, length, get_or, set, vec_items, vec_len, sym, ap, ◌∙◌, arith}
 use Rattle.tickets.specs.WriteSets.{Pairs}
 use Rattle.std.proofs.lemmas.List.{get_or-map, get_or_past, length-map, map-set}
 use Rattle.ledger.specs.declared.numbered.Numbered.{Numbered}

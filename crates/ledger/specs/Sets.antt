@@ -1,5 +1,5 @@
 -- Numbered write sets: where they are applied, and which stand in whose way.
-use Rattle.std.specs.Prelude.{ℕ, ◌-◌, Bool, true, false, not, ◌&&◌, List, [], map, length, set, vec_items, Option, nat_lt, slice_index_or, slice_set}
+use Rattle.std.specs.Prelude.{ℕ, ◌-◌, Bool, true, false, not, ◌&&◌, List, [], map, length, vec_items, Option, nat_lt, slice_index_or, slice_set}
 use Rattle.tickets.specs.WriteSets.{Pairs, shares}
 use Rattle.tickets.specs.Meaning.{pairs}
 use Rattle.ledger.specs.declared.applied.Applied.{Applied}

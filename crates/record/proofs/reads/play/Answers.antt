@@ -1,4 +1,4 @@
-use Rattle.std.proofs.Common.{◌≡◌, ◌+◌, ◌≤◌, length, drop, ap, ◌∙◌, arith}
+use Rattle.std.proofs.Common.{◌+◌, drop, ap, ◌∙◌, arith}
 use Rattle.tickets.specs.Boards.{Board}
 use Rattle.tickets.specs.Meaning.{values}
 use Rattle.record_format.specs.Items.{play_all}

@@ -1,9 +1,8 @@
-use Rattle.std.proofs.Common.{◌≡◌, ◌+◌, ◌≤◌, length, take, vec_items, vec_len, vec_capacity, ap, ◌∙◌, arith}
+use Rattle.std.proofs.Common.{vec_items, vec_len, vec_capacity, ap, ◌∙◌, arith}
 use Rattle.std.proofs.lemmas.List.{take_all}
 use Rattle.record_format.specs.Written.{encoded}
 use Rattle.record_format.specs.Reading.{decoded, items_in}
 use Rattle.record_format.specs.Calls.{check_answer, SetsOf}
-use Rattle.record_format.specs.Meaning.{item_of, items_of}
 use Rattle.record_format.proofs.Verdicts.{items_counted, made_of, written_back}
 use Rattle.record_format.proofs.Whole.{same_record, never_none, gather_next}
 use Rattle.record.proofs.reads.read.Goals as goal

@@ -1,5 +1,4 @@
 use Rattle.std.proofs.Common.{length, ap, arith}
-use Rattle.tickets.specs.Meaning.{pairs}
 use Rattle.record_format.specs.Meaning.{item_of}
 use Rattle.record_format.proofs.Writing.{then, wrote_same}
 use Rattle.record_format.proofs.Lengths.{length-body}

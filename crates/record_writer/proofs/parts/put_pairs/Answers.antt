@@ -1,4 +1,4 @@
-use Rattle.std.proofs.Common.{◌≡◌, ◌+◌, ◌*◌, ◌<◌, ◌≤◌, length, arith}
+use Rattle.std.proofs.Common.{◌<◌, length, arith}
 use Rattle.tickets.specs.Meaning.{pairs, pair_of}
 use Rattle.record_format.specs.Written.{pair_bytes}
 use Rattle.record_format.proofs.Writing.{wrote_nothing, wrote_same, wrote_moved, wrote_more, wrote_all}

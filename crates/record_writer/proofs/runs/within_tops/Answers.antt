@@ -1,4 +1,4 @@
-use Rattle.std.proofs.Common.{◌≡◌, length, sym, ap, ◌∙◌, arith}
+use Rattle.std.proofs.Common.{sym, ◌∙◌, arith}
 use Rattle.tickets.specs.Meaning.{pairs, pair_of}
 use Rattle.record_format.proofs.Sets.{always_told, tops_next, tops_above, tops_end}
 use Rattle.record_writer.proofs.runs.within_tops.Goals as goal

@@ -1,5 +1,5 @@
 -- The lowest mark and the value kept for it are the pair told.
-use Rattle.std.proofs.Common.{◌≡◌, ℕ, ◌-◌, get_or, sym, ap, ◌∙◌}
+use Rattle.std.proofs.Common.{ℕ, ◌-◌, get_or, ap, ◌∙◌}
 use Rattle.marks.specs.Marked.{marked}
 use Rattle.copy_store.proofs.Writes.{shown, told_is_the_lowest}
 use Rattle.copy_store.proofs.place.Place.own_from.Goals as goal

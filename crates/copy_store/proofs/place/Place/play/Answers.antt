@@ -1,5 +1,5 @@
 -- Past the last mark the board is as the own writes leave it.
-use Rattle.std.proofs.Common.{◌≡◌, ℕ, cond, length, get_or, Some, None, sym, refl, ap, ◌∙◌, arith}
+use Rattle.std.proofs.Common.{ℕ, cond, get_or, Some, None, sym, ap, ◌∙◌, arith}
 use Rattle.std.proofs.lemmas.List.{map-id}
 use Rattle.stores.specs.Model.{or_else, played}
 use Rattle.stores.proofs.Steps.{length-played, get_or-played}

@@ -1,5 +1,5 @@
 -- Past the last transaction there is no place.
-use Rattle.std.proofs.Common.{◌≡◌, ◌-◌, vec_items, sym, ap, arith}
+use Rattle.std.proofs.Common.{◌-◌, vec_items, sym, ap, arith}
 use Rattle.std.proofs.lemmas.List.{get_or_past}
 use Rattle.ledger.specs.declared.transaction.Transaction.{Transaction}
 use Rattle.ledger.specs.Transactions.{no_transaction}

@@ -1,6 +1,5 @@
 -- Counting those that are busy, one by one.
-use Rattle.std.proofs.Common.{◌≡◌, suc, ◌+◌, true, false, length, get_or, drop, sym, ap, ◌∙◌, arith}
-use Rattle.ledger.specs.Words.{tally}
+use Rattle.std.proofs.Common.{sym, ◌∙◌, arith}
 use Rattle.ledger.specs.Transactions.{busy_at}
 use Rattle.ledger.proofs.Upward.{tally_yes, tally_not, tally_all}
 use Rattle.ledger.proofs.transactions.methods.busy_among.Goals as goal

@@ -1,5 +1,5 @@
 -- The write set of a number that was given.
-use Rattle.std.proofs.Common.{◌≡◌, ◌-◌, ◌<◌, length, Some, vec_items, sym, ap, ◌∙◌, arith}
+use Rattle.std.proofs.Common.{◌-◌, ◌<◌, length, Some, vec_items, sym, ap, ◌∙◌, arith}
 use Rattle.std.proofs.lemmas.Bool.{cond-true, cond-false}
 use Rattle.ledger.specs.Sets.{sets_of}
 use Rattle.ledger.proofs.Items.{set_is, length-sets}

@@ -1,5 +1,5 @@
 -- No number past the last holds a write set back.
-use Rattle.std.proofs.Common.{◌≡◌, ◌-◌, min, map, length, ap, ◌∙◌, arith}
+use Rattle.std.proofs.Common.{◌≡◌, ◌-◌, min, map, length, ◌∙◌, arith}
 use Rattle.tickets.specs.Meaning.{pairs}
 use Rattle.ledger.specs.Sets.{set_of, sets_of, lowest_holding}
 use Rattle.ledger.proofs.Items.{length-sets, none_holds_past}

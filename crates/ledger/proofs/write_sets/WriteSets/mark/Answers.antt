@@ -1,5 +1,5 @@
 -- A mark set in place; past the last number there is none to mark.
-use Rattle.std.proofs.Common.{◌≡◌, ◌-◌, ◌≤◌, Bool, List, length, vec_items, sym, ap, arith}
+use Rattle.std.proofs.Common.{◌-◌, ◌≤◌, Bool, List, length, vec_items, sym, ap, arith}
 use Rattle.std.proofs.lemmas.List.{set_past}
 use Rattle.tickets.specs.Meaning.{pairs}
 use Rattle.ledger.specs.Sets.{SetModel, sets_of}

@@ -1,5 +1,5 @@
 -- Going up to the first number that holds the write set back.
-use Rattle.std.proofs.Common.{◌≡◌, ◌+◌, ◌<◌, map, length, sym, ap, ◌∙◌, arith}
+use Rattle.std.proofs.Common.{map, sym, ◌∙◌, arith}
 use Rattle.tickets.specs.Meaning.{pairs}
 use Rattle.ledger.specs.Sets.{set_of, holds_back, holds_back_at, lowest_holding}
 use Rattle.ledger.proofs.Upward.{lowest_none, lowest_more, found_some, found_none}

@@ -1,5 +1,5 @@
 -- Going up to the first number that is not applied.
-use Rattle.std.proofs.Common.{◌≡◌, ◌+◌, ◌<◌, not, map, length, sym, ap, ◌∙◌, arith}
+use Rattle.std.proofs.Common.{◌<◌, not, map, length, sym, ap, ◌∙◌, arith}
 use Rattle.std.proofs.lemmas.List.{length-map}
 use Rattle.ledger.specs.Sets.{set_of, unapplied_at, is_applied, lowest_unapplied}
 use Rattle.ledger.proofs.Upward.{lowest_none, lowest_more, found_some, found_none}

@@ -1,7 +1,6 @@
 -- Counting what is applied, in one pass; a number that is applied with all before it leaves no hole.
-use Rattle.std.proofs.Common.{◌≡◌, ◌+◌, ◌≤◌, true, false, eqb, map, length, sym, refl, ap, ◌∙◌, arith}
+use Rattle.std.proofs.Common.{◌≡◌, ◌+◌, eqb, map, length, sym, ap, ◌∙◌, arith}
 use Rattle.std.proofs.lemmas.List.{length-map}
-use Rattle.ledger.specs.declared.progress.Progress.{Progress}
 use Rattle.ledger.specs.Words.{count, whole}
 use Rattle.ledger.specs.Sets.{set_of, applied_at, is_applied, progress_at}
 use Rattle.ledger.proofs.Upward.{count_none, count_yes, count_not, whole_none, whole_yes, whole_not}

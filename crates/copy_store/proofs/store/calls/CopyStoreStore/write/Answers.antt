@@ -1,5 +1,5 @@
 -- A place that is written where it lies is the place with the write, put back.
-use Rattle.std.proofs.Common.{◌≡◌, ◌≤◌, Some, sym, ap, ◌∙◌, subst}
+use Rattle.std.proofs.Common.{◌≤◌, Some, sym, ap, ◌∙◌, subst}
 use Rattle.std.proofs.lemmas.List.{length-set}
 use Rattle.stores.specs.Model.{held, bind, done, leaves, write_at, with_place}
 use Rattle.stores.proofs.Steps.{write_step}
