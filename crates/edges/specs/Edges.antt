@@ -13,7 +13,7 @@ use Rattle.law.specs.Plain.TransactionState.{live}
 use Rattle.law.specs.Transactions.{clashes}
 use Rattle.law.specs.Opening.{board_step}
 use Rattle.law.specs.Opening.PlainBoard.{opened}
-use Rattle.std.specs.List.{AllByRecursion as All}
+use Rattle.std.specs.List.{AllByRecursion}
 use Rattle.record_format.specs.Items.{Item, Run}
 use Rattle.record_format.specs.Written.{encoded}
 use Rattle.record_format.specs.Reading.{decoded}
@@ -53,4 +53,4 @@ pub record Edges : Type 0 where
 -- no record of a run has more bytes, and one of 256 write sets of eight pairs has as many
 pub record Longest (n : ℕ) : Type 0 where
   pub most : (its : List Item) → Run its → length (encoded its) ≤ n
-  pub reached : (its : List Item) → length its ≡ 256 → All (λ it. length it.pairs ≡ 8) its → length (encoded its) ≡ n
+  pub reached : (its : List Item) → length its ≡ 256 → AllByRecursion (λ it. length it.pairs ≡ 8) its → length (encoded its) ≡ n

@@ -2,7 +2,7 @@
 use Rattle.std.proofs.Common.{◌≡◌, ℕ, ◌+◌, ◌-◌, ◌*◌, ◌^◌, ◌<◌, ◌≤◌, true, false, ◌&&◌, eqb, ltb, List, [], ◌∷◌, length, get_or, take, Some, None, decimal, Option, sym, refl, ap, ◌∙◌, subst, inl, inr, arith, lit<}
 use native.Mathlib.Nat.{pow-le-pow_right}
 use Rattle.std.specs.Str.Parse.{AllDigits, digits_value}
-use Rattle.std.specs.Char.{is_ascii_digit, digit_value as digitValue}
+use Rattle.std.specs.Char.{is_ascii_digit, digit_value}
 use Rattle.std.specs.Int.{IsInRange}
 use Rattle.std.proofs.lemmas.Bool.Decides.{nat_tests}
 use Rattle.std.proofs.lemmas.Bool.{false≢true, cases_eq, cond-true, cond_both, and_parts, and_from, eqb-true, eq-eqb, ltb-true, lt-ltb}
@@ -101,11 +101,11 @@ digits_before_the_last ds i all h few =
     let p = pow-le-pow_right {n = 10} (lit< tt) {i = length (take i ds)} {j = 9} (omega arith) in
     omega arith
 
-digit_value : (b : ℕ) → IsInRange 48 57 b → digitValue b ≡ b - 48
-digit_value b h = grind (arith, nat_tests)
+digit_value_lem : (b : ℕ) → IsInRange 48 57 b → digit_value b ≡ b - 48
+digit_value_lem b h = grind (arith, nat_tests)
 
 pub one_digit_more : (ds : List ℕ) (i v : ℕ) → i < length ds → IsInRange 48 57 (get_or ds i 0) → AllDigits 10 (take i ds) × (v ≡ digits_value 10 (take i ds)) → AllDigits 10 (take (i + 1) ds) × (v * 10 + (get_or ds i 0 - 48) ≡ digits_value 10 (take (i + 1) ds))
 one_digit_more ds i v h d (all, is) =
-    let e = digit_value (get_or ds i 0) d in
-    let now_is : v * 10 + (get_or ds i 0 - 48) ≡ digits_value 10 (take i ds) * 10 + digitValue (get_or ds i 0) = cc in
+    let e = digit_value_lem (get_or ds i 0) d in
+    let now_is : v * 10 + (get_or ds i 0 - 48) ≡ digits_value 10 (take i ds) * 10 + digit_value (get_or ds i 0) = cc in
     (digits_more 10 ds i h all (omega (arith, e, d.0, d.1)), now_is ∙ sym (digits_value_more 10 ds i h))

@@ -2,7 +2,7 @@
 use Rattle.std.proofs.Common.{◌≡◌, ℕ, zero, suc, ◌^◌, ◌<◌, true, false, List, [], ◌∷◌, ◌++◌, length, drop, Some, None, decimal, Option, sym, refl, ap, ◌∙◌, subst, arith}
 use Rattle.std.specs.Str.Parse.{AllDigits}
 use Rattle.std.specs.Char.{is_ascii_digit}
-use Rattle.std.specs.List.{AllByRecursion as All}
+use Rattle.std.specs.List.{AllByRecursion}
 use Rattle.std.proofs.lemmas.List.{drop_at}
 use Rattle.std.proofs.lemmas.Str.Parse.{digit_from_value}
 use Rattle.std.proofs.lemmas.Bool.{cond-true, cond-false}
@@ -38,7 +38,7 @@ number_behind_a_space n rest narrow stops =
     ap some_digits (digits_end_where_they_stop (decimal n) rest s.all stops)
     ∙ sym (digits_are_a_number (decimal n) (λ none. omega (arith, s.some)))
 
-pub spaced_numbers_are_read_back : (ns : List ℕ) → All (λ n. n < 2 ^ 32) ns → numbers_in (length ns) (spaced ns) ≡ Some ns
+pub spaced_numbers_are_read_back : (ns : List ℕ) → AllByRecursion (λ n. n < 2 ^ 32) ns → numbers_in (length ns) (spaced ns) ≡ Some ns
 unfolding numbers_in
 spaced_numbers_are_read_back [] narrow = refl
 spaced_numbers_are_read_back (n ∷ ns) (narrow, others) =
@@ -51,7 +51,7 @@ spaced_numbers_are_read_back (n ∷ ns) (narrow, others) =
 pub record Spells (rest : List ℕ) (k : ℕ) (ns : List ℕ) : Type 0 where
   pub is : rest ≡ spaced ns
   pub long : length ns ≡ k
-  pub narrow : All (λ n. n < 2 ^ 32) ns
+  pub narrow : AllByRecursion (λ n. n < 2 ^ 32) ns
 
 -- the first of several numbers, and the others
 record Parts (first : Option ℕ) (others : Option (List ℕ)) (ns : List ℕ) : Type 0 where

@@ -2,7 +2,7 @@
 use Rattle.std.proofs.Common.{◌≡◌, ℕ, ◌^◌, ◌<◌, true, eqb, List, [], ◌∷◌, ◌++◌, length, get_or, Some, None, Option, sym, refl, ap, ◌∙◌, subst, arith}
 use Rattle.std.specs.Option.{option_map}
 use Rattle.std.specs.Char.{is_ascii_digit, is_ascii_alphabetic}
-use Rattle.std.specs.List.{AllByRecursion as All}
+use Rattle.std.specs.List.{AllByRecursion}
 use Rattle.std.proofs.lemmas.Bool.{cond_both, eqb-true}
 use Rattle.calls.specs.declared.call.Call.{Call}
 use Rattle.calls.specs.declared.call.Call.TheVariants.{Begin, Read, Write, Commit, GiveUp, Apply, Drain, Value, State, WriteSet, Applied}
@@ -31,7 +31,7 @@ module _ (call : List ℕ → Call) (l k : ℕ) (makes : Makes call l k) (rest :
       let s = only_spaced_numbers_are_read k rest ns is in
       let numbers = makes.has_numbers ns s.long in
       let spells : spelled (call ns) ≡ Some (l ∷ rest) = (λ i. option_map (λ x. x ++ spaced (numbers i)) (makes.has_letter ns i)) ∙ ap (λ r. Some (l ∷ r)) (sym s.is) in
-      subst (λ x. Spelling x (l ∷ rest)) (same_in_some e) (record { is = spells; narrow = subst (All (λ n. n < 2 ^ 32)) (sym numbers) s.narrow })
+      subst (λ x. Spelling x (l ∷ rest)) (same_in_some e) (record { is = spells; narrow = subst (AllByRecursion (λ n. n < 2 ^ 32)) (sym numbers) s.narrow })
 
   call_of_its_letter : (m : ℕ) (c : Call) → m ≡ l → option_map call (numbers_in k rest) ≡ Some c → Spelling c (m ∷ rest)
   call_of_its_letter m c e h = subst (λ x. Spelling c (x ∷ rest)) (sym e) (made (numbers_in k rest) c refl h)

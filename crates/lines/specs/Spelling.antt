@@ -1,6 +1,6 @@
 -- How a call is spelled in a line of a script.
 use Rattle.std.specs.Prelude.{◌≡◌, ℕ, ◌^◌, ◌<◌, List, [], ◌∷◌, ◌++◌, Some, None, codes, decimal, Option}
-use Rattle.std.specs.List.{flat_map, AllByRecursion as All}
+use Rattle.std.specs.List.{flat_map, AllByRecursion}
 use Rattle.std.specs.Option.{option_map}
 use Rattle.calls.specs.declared.call.Call.{Call}
 use Rattle.calls.specs.declared.call.Call.TheVariants.{Begin, Read, Write, Commit, GiveUp, Apply, Drain, Value, State, WriteSet, Applied}
@@ -43,7 +43,7 @@ spelled c = option_map (λ l. l ++ spaced (numbers_of c)) (letter_of c)
 
 -- the call's numbers are of 32 bits
 abbrev pub Narrow : Call → Type 0
-Narrow c = All (λ n. n < 2 ^ 32) (numbers_of c)
+Narrow c = AllByRecursion (λ n. n < 2 ^ 32) (numbers_of c)
 
 -- a line is read as a call exactly where it is that call's spelling
 pub record Understands (line : List ℕ) (r : Option Call) : Type 0 where

@@ -1,6 +1,6 @@
 -- How long the parts of a record are, and why every offset fits its two bytes.
 use Rattle.std.proofs.Common.{◌≡◌, ℕ, ◌+◌, ◌*◌, ◌<◌, ◌≤◌, List, [], ◌∷◌, length, None, refl, arith}
-use Rattle.std.specs.List.{flat_map, AllByRecursion as All}
+use Rattle.std.specs.List.{flat_map, AllByRecursion}
 use Rattle.std.proofs.lemmas.List.{length-append}
 use Rattle.tickets.specs.WriteSets.{Pairs}
 use Rattle.record_format.specs.Items.{Item, first_unfit}
@@ -32,13 +32,13 @@ bodies_at_most n (it ∷ its) h =
     let few = (fit n it f.first).few in
     omega (arith, length-append (body it) (bodies its), length-body it, bodies_at_most (n + 1) its f.others)
 
-bodies_full : (its : List Item) → All (λ it. length it.pairs ≡ 8) its → length (bodies its) ≡ 42 * length its
+bodies_full : (its : List Item) → AllByRecursion (λ it. length it.pairs ≡ 8) its → length (bodies its) ≡ 42 * length its
 bodies_full [] h = refl
 bodies_full (it ∷ its) h =
     let full = h.0 in
     omega (arith, length-append (body it) (bodies its), length-body it, bodies_full its h.1)
 
-offsets_fit_from : (n at : ℕ) (its : List Item) → first_unfit n its ≡ None → at + 42 * length its < 65536 → All (λ o. o < 65536) (offsets at its)
+offsets_fit_from : (n at : ℕ) (its : List Item) → first_unfit n its ≡ None → at + 42 * length its < 65536 → AllByRecursion (λ o. o < 65536) (offsets at its)
 offsets_fit_from n at [] h room = tt
 offsets_fit_from n at (it ∷ its) h room =
     let f = first_fits n it its h in

@@ -1,13 +1,13 @@
 -- What holds of every run and of every record.
 use Rattle.std.specs.Prelude.{◌≡◌, ℕ, ◌+◌, ◌<◌, ◌≤◌, List, [], ◌∷◌, length, Ok, Err}
-use Rattle.std.specs.List.{AllByRecursion as All}
+use Rattle.std.specs.List.{AllByRecursion}
 use Rattle.record_format.specs.Items.{Item, Run}
 use Rattle.record_format.specs.Written.{body, encoded, first_body}
 use Rattle.record_format.specs.Reading.{decoded}
 
 -- every element is a byte
 abbrev pub Bytes : List ℕ → Type 0
-Bytes bs = All (λ b. b < 256) bs
+Bytes bs = AllByRecursion (λ b. b < 256) bs
 
 pub record RoundTrips : Type 0 where
   -- what is written of a run reads back as the same items
@@ -25,9 +25,9 @@ offsets at (it ∷ its) = at ∷ offsets (at + length (body it)) its
 -- 256 items of eight pairs are the most: 2 + 4 · 256 + 256 · (2 + 5 · 8) bytes
 pub record SizeLaws : Type 0 where
   pub longest : (its : List Item) → Run its → length (encoded its) ≤ 11778
-  pub reached : (its : List Item) → length its ≡ 256 → All (λ it. length it.pairs ≡ 8) its → length (encoded its) ≡ 11778
+  pub reached : (its : List Item) → length its ≡ 256 → AllByRecursion (λ it. length it.pairs ≡ 8) its → length (encoded its) ≡ 11778
   -- so every offset fits its two bytes
-  pub offsets_fit : (its : List Item) → Run its → All (λ at. at < 65536) (offsets (first_body (length its)) its)
+  pub offsets_fit : (its : List Item) → Run its → AllByRecursion (λ at. at < 65536) (offsets (first_body (length its)) its)
 
 -- the worked examples
 abbrev pub one_item : Item

@@ -1,6 +1,6 @@
 -- What playing write sets does to a board, object by object.
 use Rattle.std.proofs.Common.{◌≡◌, ℕ, suc, ◌%◌, ◌^◌, ◌<◌, Bool, true, false, cond, eqb, ltb, leb, ◌≢◌, [], ◌∷◌, length, set, is_some, Some, None, Option, sym, refl, ap, ◌∙◌, inl, inr, arith, lit<}
-use Rattle.std.specs.List.{AllByRecursion as All}
+use Rattle.std.specs.List.{AllByRecursion}
 use Rattle.std.proofs.ByRecursion.{All-get_or}
 use Rattle.std.proofs.lemmas.Bool.{and_parts, leb-true, cases_eq, eq-eqb, ne_eqb, cond-true, cond-false, or_cases, or_left, or_right, both_ways}
 use Rattle.std.proofs.lemmas.List.{set_comm, length-set, get_or-set_same, get_or-set_other, ext_get_or}
@@ -110,7 +110,7 @@ sharing_laws =
     record { is_a_common_object = λ ps qs. (shares_common ps qs, λ c. shares_from ps qs c.0 c.1.0 c.1.1); either_way = shares_either_way }
 
 -- a test over the whole table
-every_top_fits : All (λ t. t < 2 ^ 32) tops
+every_top_fits : AllByRecursion (λ t. t < 2 ^ 32) tops
 every_top_fits = (lit< tt, (lit< tt, (lit< tt, (lit< tt, (lit< tt, (lit< tt, (lit< tt, (lit< tt, tt))))))))
 
 pub tops_fit : TopsFit
