@@ -1,5 +1,5 @@
 // Work that is open at a replica of a bank. It is owed an end: nothing but a commit or an abort spends it.
-ghost use Rattle.std.specs.Prelude.{◌≡◌};
+ghost use Rattle.std.specs.Prelude.{◌≡◌, ◌≤◌};
 ghost use Rattle.stores.specs.Model.{begin_answer, begin_after, read_answer, write_answer, write_after, commit_answer, commit_after, abort_answer, abort_after};
 ghost use Rattle.banks.specs.Model.{asked, changed};
 ghost use Rattle.banks.specs.Works.{replica_of, place_of, begun, ended};
@@ -13,10 +13,10 @@ pub struct Work {
     place: usize,
 }
 
-// Letting work go asks for what nothing proves.
+// Letting work go asks for a place that no store has: each has at most 64. So no work that is open can be let go.
 impl Drop for Work {
     fn drop(self)
-        requires { ⊥ }
+        requires { 64 ≤ place_of self }
     {
         let Work {
             replica: _,

@@ -18,10 +18,10 @@ pub struct Held {
     number: u32,
 }
 
-// Letting a transaction go asks for what nothing proves.
+// Letting a transaction go asks for the number 0, and the first transaction has the number 1. So none that was begun can be let go.
 impl Drop for Held {
     fn drop(self)
-        requires { ⊥ }
+        requires { number_of self ≡ 0 }
     {
         let Held { number: _ } = self;
     }
