@@ -24,8 +24,7 @@ use Rattle.law.specs.Coupled.{Coupled}
 use Rattle.law.specs.Sound as law
 use Rattle.law.specs.Sound.{Middle}
 use Rattle.refinement.specs.Answers.{answered}
-use Rattle.refinement.specs.Worlds.{numbered_of, world_of, plain_of}
-use Rattle.refinement.specs.Sound.{Sound}
+use Rattle.refinement.specs.Worlds.{numbered_of, world_of}
 use Rattle.refinement.specs.Tops.{Within, BoardWithin}
 use Rattle.middleware.specs.declared.fault.Asked.{Asked}
 use Rattle.middleware.specs.Listing.{result_listed, asked_to}

@@ -1,5 +1,5 @@
 -- A whole run keeps the promise: made, opened, and call after call to the end.
-use Rattle.std.proofs.Common.{◌≡◌, ℕ, Bool, true, false, cond, List, [], length, sym, refl, ap, ◌∙◌, subst}
+use Rattle.std.proofs.Common.{◌≡◌, true, false, cond, List, [], length, sym, refl, ap, ◌∙◌, subst}
 use Rattle.calls.specs.declared.call.Call.{Call}
 use Rattle.stores.specs.Model.{StoreModel}
 use Rattle.machine.specs.declared.reason.Reason.{Reason}
@@ -9,7 +9,6 @@ use Rattle.law.specs.History.{Answer, History, accepted}
 use Rattle.law.specs.History.Answer.{done, refused, fault}
 use Rattle.law.specs.Opening.{PlainBoard, board_open, start_of}
 use Rattle.law.specs.Promise.{Promised}
-use Rattle.law.specs.Store.{Store}
 use Rattle.refinement.specs.Answers.{refusal}
 use Rattle.refinement.specs.Stores.{law_bank}
 use Rattle.refinement.specs.Sound.{LawfulStores, Follows}

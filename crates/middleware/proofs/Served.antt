@@ -1,12 +1,12 @@
 -- A call that is the machine's, with the call put beside a refusal, is the plain board's.
-use Rattle.std.proofs.Common.{◌≡◌, ℕ, ◌+◌, ◌<◌, ◌≤◌, false, List, [], ◌∷◌, ◌++◌, length, get_or, take, Ok, Err, Option, Result, sym, refl, ap, ◌∙◌, subst, arith}
+use Rattle.std.proofs.Common.{◌≡◌, ℕ, ◌+◌, ◌<◌, ◌≤◌, false, List, [], ◌∷◌, ◌++◌, length, get_or, take, Ok, Err, Result, sym, refl, ap, ◌∙◌, subst, arith}
 use Rattle.std.proofs.lemmas.List.{take_more, take_all, length-take-le}
 use Rattle.calls.specs.declared.call.Call.{Call}
 use Rattle.machine.specs.declared.reason.Reason.{Reason}
 use Rattle.machine.specs.Machine.{Machine, Came}
 use Rattle.law.specs.History.{Answer, History, accepted}
 use Rattle.law.specs.History.Event.{event}
-use Rattle.law.specs.Opening.{PlainBoard, board_step}
+use Rattle.law.specs.Opening.{board_step}
 use Rattle.ledger.specs.declared.numbered.Numbered.{Numbered}
 use Rattle.ledger.specs.Sets.{SetModel, set_of}
 use Rattle.engine.specs.Seen.{set_seen}

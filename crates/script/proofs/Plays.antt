@@ -1,13 +1,12 @@
 -- A script that was run keeps the promise: the board was made, opened, and given line after line.
-use Rattle.std.proofs.Common.{◌≡◌, ℕ, List, [], ◌++◌, length, drop, None, sym, refl, ap, ◌∙◌, subst}
+use Rattle.std.proofs.Common.{◌≡◌, ℕ, List, ◌++◌, length, drop, None, refl, ap, ◌∙◌}
 use Rattle.stores.specs.Model.{StoreModel}
 use Rattle.lines.specs.Scripts.{lines_of}
 use Rattle.machine.specs.Machine.{Machine}
-use Rattle.law.specs.History.{accepted}
 use Rattle.law.specs.History.Answer.{done}
-use Rattle.law.specs.Opening.{PlainBoard, board_open, start_of}
+use Rattle.law.specs.Opening.{PlainBoard, start_of}
 use Rattle.refinement.specs.Stores.{law_bank}
-use Rattle.refinement.specs.Sound.{LawfulStores, Follows}
+use Rattle.refinement.specs.Sound.{LawfulStores}
 use Rattle.refinement.proofs.Queues.{ran_none, promised_served}
 use Rattle.middleware.specs.Serving.{Made, Opens}
 use Rattle.middleware.proofs.Runs.{opened_as}

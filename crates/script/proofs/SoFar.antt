@@ -1,6 +1,6 @@
 -- The lines that were answered so far: what is printed and what is still to come make the whole.
-use Rattle.std.proofs.Common.{◌≡◌, ℕ, ◌+◌, ◌*◌, ◌≤◌, List, [], ◌∷◌, ◌++◌, length, take, drop, Some, None, Option, sym, refl, ap, ◌∙◌, subst, arith}
-use Rattle.std.proofs.lemmas.List.{append_assoc, append-nil, length-append}
+use Rattle.std.proofs.Common.{◌≡◌, ℕ, ◌+◌, ◌*◌, ◌≤◌, List, [], ◌∷◌, ◌++◌, length, drop, Some, None, Option, sym, refl, ap, ◌∙◌, subst, arith}
+use Rattle.std.proofs.lemmas.List.{append_assoc, append-nil}
 use Rattle.calls.specs.declared.call.Call.{Call}
 use Rattle.tickets.specs.Boards.{Board}
 use Rattle.lines.specs.Reading.{understood}
@@ -11,7 +11,7 @@ use Rattle.answers.proofs.Writing.{one_write_after_another}
 use Rattle.machine.specs.Machine.{Machine}
 use Rattle.law.specs.History.{History}
 use Rattle.law.specs.History.Event.{event}
-use Rattle.law.specs.Opening.{PlainBoard, board_step}
+use Rattle.law.specs.Opening.{board_step}
 use Rattle.refinement.specs.Sound.{Sound}
 use Rattle.refinement.specs.Worlds.{plain_of}
 use Rattle.refinement.specs.Promise.{Ran}

@@ -1,5 +1,5 @@
 -- What is promised of a script that is run over a bank.
-use Rattle.std.specs.Prelude.{◌≡◌, ℕ, ◌*◌, cond, List, [], ◌∷◌, ◌++◌, length, drop, Some, None, Ok, Err, Option, Result, nat_le}
+use Rattle.std.specs.Prelude.{◌≡◌, ℕ, ◌*◌, cond, List, ◌++◌, length, drop, Some, None, Ok, Err, Option, Result, nat_le}
 use Rattle.lines.specs.Scripts.{lines_of, within_limits}
 use Rattle.stores.specs.Model.{StoreModel}
 use Rattle.law.specs.History.{History}

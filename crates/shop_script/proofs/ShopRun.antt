@@ -8,7 +8,7 @@ use Rattle.shop.specs.Shop.{Two, EmptyShop}
 use Rattle.lines.specs.Scripts.{lines_of}
 use Rattle.law.specs.History.{Answer, accepted}
 use Rattle.law.specs.History.Answer.{done}
-use Rattle.law.specs.Opening.{PlainBoard, opening, open_from, first_object, board_open, start_of}
+use Rattle.law.specs.Opening.{PlainBoard, opening, open_from, first_object, board_open}
 use Rattle.law.specs.Plain.{just_opened}
 use Rattle.law.specs.Store.{Store}
 use Rattle.refinement.specs.Stores.{law_bank}

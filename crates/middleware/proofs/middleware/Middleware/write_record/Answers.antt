@@ -1,4 +1,4 @@
-use Rattle.std.proofs.Common.{◌≡◌, ℕ, ◌≤◌, length, IfOk, Result, sym, subst}
+use Rattle.std.proofs.Common.{ℕ, ◌≤◌, length, IfOk, Result, sym, subst}
 use Rattle.middleware.specs.declared.fault.Asked.TheVariants.{Record}
 use Rattle.middleware.specs.declared.fault.BoardFault.{BoardFault}
 use Rattle.middleware.specs.Listing.{asked_to}
