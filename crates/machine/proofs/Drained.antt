@@ -1,5 +1,5 @@
 -- The turns of draining: what the rest of them comes to from here is what all of them come to.
-use Rattle.std.proofs.Common.{◌≡◌, ℕ, suc, ◌+◌, ◌-◌, ◌<◌, ◌≤◌, Some, None, Ok, Err, Result, sym, refl, ap, ◌∙◌, arith}
+use Rattle.std.proofs.Common.{◌≡◌, ℕ, suc, ◌+◌, ◌-◌, ◌<◌, ◌≤◌, Some, None, Ok, Err, Result, sym, ap, ◌∙◌, arith}
 use Rattle.errands.specs.Outcomes.{done, refused, step, go_on}
 use Rattle.ledger.specs.Sets.{lowest_unapplied}
 use Rattle.machine.specs.declared.reason.Reason.{Reason}

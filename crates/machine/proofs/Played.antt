@@ -1,5 +1,5 @@
 -- A numbered write set played, at home and elsewhere.
-use Rattle.std.proofs.Common.{◌≡◌, ℕ, true, false, cond, eqb, length, Ok, sym, refl, ap, ◌∙◌}
+use Rattle.std.proofs.Common.{◌≡◌, ℕ, true, length, Ok, sym, ap, ◌∙◌}
 use Rattle.std.proofs.lemmas.Bool.{eq-eqb, ne_eqb, cond-true, cond-false}
 use Rattle.ledger.specs.Words.{up_to}
 use Rattle.ledger.specs.Sets.{SetModel, nth_set}

@@ -1,5 +1,5 @@
 -- What apply and drain answer and leave.
-use Rattle.std.specs.Prelude.{ℕ, zero, suc, ◌+◌, ◌-◌, cond, set, Some, None, Ok, Err, Option, Result, ◌==◌, slice_set}
+use Rattle.std.specs.Prelude.{ℕ, zero, suc, ◌+◌, ◌-◌, cond, Some, None, Ok, Err, Option, Result, ◌==◌, slice_set}
 use Rattle.tickets.specs.WriteSets.{Pairs}
 use Rattle.ledger.specs.declared.transaction.Event.TheVariants.{Applied}
 use Rattle.errands.specs.Outcomes.{done, look, step}

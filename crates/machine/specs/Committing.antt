@@ -7,7 +7,7 @@ use Rattle.ledger.specs.declared.verdict.Verdict.TheVariants.{ReadOnly, Numbered
 use Rattle.ledger.specs.declared.transaction.Transaction.{Transaction}
 use Rattle.ledger.specs.declared.transaction.Event.TheVariants.{Commit}
 use Rattle.errands.specs.Outcomes.{done, refused, look, step}
-use Rattle.ledger.specs.Sets.{SetModel, lowest_clash}
+use Rattle.ledger.specs.Sets.{lowest_clash}
 use Rattle.errands.specs.Own.{own_answer}
 use Rattle.errands.specs.Replay.{commit_at, abort_at}
 use Rattle.machine.specs.declared.reason.Reason.{Reason}

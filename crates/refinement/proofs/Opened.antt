@@ -20,7 +20,7 @@ use Rattle.refinement.specs.Stores.{law_place, law_bank}
 use Rattle.refinement.specs.Worlds.{entry_of, numbered_of, applied_of, world_of, middle_of, plain_of}
 use Rattle.refinement.specs.Answers.{quiet}
 use Rattle.refinement.specs.Steps.{came, machine_open}
-use Rattle.refinement.specs.Sound.{LawfulStores, EightMarks, Sound, EveryMaking, EveryOpening}
+use Rattle.refinement.specs.Sound.{LawfulStores, EightMarks, EveryMaking, EveryOpening}
 use Rattle.refinement.proofs.Banks.{as_many_stores, store_is}
 use Rattle.refinement.proofs.Opening.{MayOpen, may_open_is, start_is}
 use Rattle.refinement.proofs.Calls.{unopened_is}

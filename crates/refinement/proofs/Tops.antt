@@ -1,5 +1,5 @@
 -- The values that a plain board holds stay within the tops of their objects: a write is checked, and nothing else brings a value.
-use Rattle.std.proofs.Common.{◌≡◌, ℕ, zero, suc, ◌-◌, ◌≤◌, Bool, true, false, cond, ◌&&◌, eqb, leb, ltb, List, [], ◌∷◌, ◌++◌, length, get_or, set, refl, subst}
+use Rattle.std.proofs.Common.{◌≡◌, ℕ, zero, suc, ◌-◌, Bool, true, false, cond, ◌&&◌, eqb, leb, ltb, List, [], ◌∷◌, ◌++◌, length, get_or, set, refl, subst}
 use Rattle.std.proofs.lemmas.Bool.{and_from, and_parts}
 use Rattle.calls.specs.declared.call.Call.{Call}
 use Rattle.calls.specs.declared.call.Call.TheVariants.{Begin, Read, Write, Commit, GiveUp, Apply, Drain, Value, State, WriteSet, Applied}
@@ -10,12 +10,11 @@ use Rattle.law.specs.Applications.{drained, holds, lacks, on_number, played_at, 
 use Rattle.law.specs.History.{accepted}
 use Rattle.law.specs.History.Answer.{done, read_only}
 use Rattle.law.specs.Numbers.{lowest}
-use Rattle.law.specs.Opening.{PlainBoard, board_open, board_step, opening, start_of}
+use Rattle.law.specs.Opening.{opening, start_of}
 use Rattle.law.specs.Opening.PlainBoard.{opened, unopened}
-use Rattle.law.specs.Plain.{Outcome, Plain, Transaction, TransactionState, in_state, just_opened, no_set, no_transaction, numbered, transaction, with_transaction}
-use Rattle.law.specs.Plain.TransactionState.{aborted, committed, given_up, live, pending}
+use Rattle.law.specs.Plain.{Outcome, Plain, Transaction, in_state, just_opened, no_set, no_transaction, numbered, transaction, with_transaction}
+use Rattle.law.specs.Plain.TransactionState.{committed, live}
 use Rattle.law.specs.Steps.{step}
-use Rattle.law.specs.Store.{Store}
 use Rattle.law.specs.Transactions.{clashes, register, verdict, with_begun}
 use Rattle.law.specs.Writes.{is_empty, put}
 use Rattle.law.proofs.Cases.{by_check, by_transaction}

@@ -1,5 +1,5 @@
 -- At home or elsewhere, as the write set's home has it.
-use Rattle.std.proofs.Common.{◌≡◌, ap, ◌∙◌}
+use Rattle.std.proofs.Common.{ap, ◌∙◌}
 use Rattle.ledger.specs.Sets.{set_of}
 use Rattle.machine.specs.Machine.{Came}
 use Rattle.machine.proofs.Played.{plays_home, plays_away}

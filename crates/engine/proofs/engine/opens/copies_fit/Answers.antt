@@ -1,5 +1,5 @@
 -- Copy by copy; at most eight, so all of them are counted.
-use Rattle.std.proofs.Common.{◌≡◌, Err, sym, ap, ◌∙◌, arith}
+use Rattle.std.proofs.Common.{Err, sym, ap, ◌∙◌, arith}
 use Rattle.std.proofs.lemmas.Result.{err_from_is_err_and}
 use Rattle.machine.proofs.Opened.{fits_more, fits_not, fits_all}
 use Rattle.engine.proofs.engine.opens.copies_fit.Goals as goal
