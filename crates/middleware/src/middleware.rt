@@ -2,10 +2,10 @@
 use banks::Bank;
 use engine::Engine;
 
-mod calls;
 mod opens;
 mod queue;
 mod records;
+mod single_calls;
 
 #[derive(Drop)]
 pub struct Middleware<B: Bank> {
