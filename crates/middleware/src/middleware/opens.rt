@@ -15,6 +15,8 @@ use std::alloc::Global;
 
 impl<B: Bank> Middleware<B> {
     /// A board that is not opened, with all memory reserved; where there is none, the bank comes back.
+    // Inlined, its moves of a whole bank cost LLVM many minutes.
+    #[inline(never)]
     pub fn new(heap: Global, bank: B) -> Result<Middleware<B>, B>
         ensures made { MatchResult result (λ m. Made (B.Bank.stores bank) (held B.Bank.stores m)) (λ b. b ≡ bank) }
     {
