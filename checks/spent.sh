@@ -9,16 +9,11 @@ trap 'rm -rf "$scratch"' EXIT
 trap 'exit 2' HUP INT TERM
 bad=0
 
-# What is proved already is taken over, so that only the changed crates are checked.
-mkdir -p "$scratch/target/inc"
-cp -R crates crates.txt "$scratch"
-for part in rlib stamp inc/shop_day; do
-    [ ! -d "target/$part" ] || cp -R "target/$part" "$scratch/target/$part"
-done
+tar -cf - --exclude=out crates crates.txt | tar -xf - -C "$scratch"
 
 # Checks a crate of the scratch copy, and keeps what is said in its log.
 try() { # CRATE
-    (cd "$scratch" && rt dev "$1") >"$scratch/log" 2>&1
+    (cd "$scratch/crates/$1" && rt check) >"$scratch/log" 2>&1
 }
 
 # Prints what was expected and whether it came; shows the end of the log where it did not.
@@ -31,7 +26,7 @@ say() { # ok|BAD SENTENCE
 refused() { # CRATE VALUE SENTENCE
     if try "$1"; then say BAD "$3"
     elif [ "$(grep -c ': error' "$scratch/log")" = 1 ] &&
-        grep -q "/crates/$1/src/.*: error\[borrow-e0382\]: borrow of moved value: \`$2\`" "$scratch/log"; then say ok "$3"
+        grep -q "src/.*: error\[borrow-e0382\]: borrow of moved value: \`$2\`" "$scratch/log"; then say ok "$3"
     else say BAD "$3"
     fi
 }
@@ -64,10 +59,9 @@ mkdir -p "$scratch/crates/spent_work/src"
 echo 'spent_work: stores tickets' >>"$scratch/crates.txt"
 work() { # FIRST
     cat >"$scratch/crates/spent_work/src/lib.rt" <<RATTLE
-use stores::Store;
-use stores::StoreFault;
-use stores::Unfinished;
-use stores::Work;
+#![tactic(auto)]
+
+use stores::{Store, StoreFault, Unfinished, Work};
 
 pub fn commit_and_write<S: Store>(store: &mut S, work: Work) -> Result<(), StoreFault> {
     match work.commit(store) {

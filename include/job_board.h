@@ -24,8 +24,8 @@
  * numbers of refusals are listed in docs/REFUSALS.md; those that a line can meet
  * are 1, 2, 3, 4, 5, 7, 26, 27, 28, 29, 30, 31, 32 and 33.
  *
- * Link with libhost.a (rt staticlib host) and the toolchain's librattle_c.a; the
- * script examples/host.sh does both. A call needs some 64 KiB of stack.
+ * Link with libhost.a (rt lib, in crates/host) and the toolchain's liblibc_c.a;
+ * the script examples/host.sh does both. A call needs some 64 KiB of stack.
  */
 #ifndef JOB_BOARD_H
 #define JOB_BOARD_H
