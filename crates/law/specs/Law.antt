@@ -18,7 +18,7 @@ pub record Clash (h : Facts) (t m : ℕ) : Type 0 where
   pub given : m ≤ given h
   pub clashing : Clashing (write_set h m) (last_write h t)
 
--- A commit is answered with the next number where nothing clashes, and with an abort where something does, which names the lowest; a read_only one has no writes
+-- A commit is answered with the next number where nothing clashes, and with an abort where something does, which names the lowest; a read-only one has no writes
 abbrev pub Verdict : Facts → ℕ → Answer → Type 0
 Verdict h t done = ⊥
 Verdict h t (told n) = (n ≡ suc (given h)) × ((m : ℕ) → Clash h t m → ⊥) × ((j : ℕ) × (is_some (last_write h t j) ≡ true))

@@ -50,7 +50,7 @@ pub record Refuted : Type 0 where
   pub seen_abort : (start : Board) (K : ℕ) (h : Facts) (t m : ℕ) → m ≤ snapshot h t → Right start K h (event (Commit t) (aborts m)) → ⊥
   -- a clash that is overlooked, here with a number that is not applied at home
   pub overlooked_clash : Right zeros 2 (facts scene) (event (Commit 2) (told 2)) → ⊥
-  -- a commit with writes that is taken for a read_only one
+  -- a commit with writes that is taken for a read-only one
   pub overlooked_writes : Right zeros 2 (facts scene) (event (Commit 2) read_only) → ⊥
   -- the wrong clash named, 2 in place of 1
   pub wrong_clash : Right zeros 2 (facts sequel) (event (Commit 2) (aborts 2)) → ⊥

@@ -57,7 +57,7 @@ abbrev pub verdict : ℕ → ℕ → Pairs → Plain → Outcome
 verdict zero t u p = check (nat_lt (length p.sets) 256) 31 p (told (suc (length p.sets)), register t u p)
 verdict (suc m) t u p = (aborts (suc m), with_transaction p t (in_state aborted (transaction p t)))
 
--- commit of t: without own writes it is read_only, else validated
+-- commit of t: without own writes it is read-only, else validated
 abbrev pub commit_of : ℕ → Plain → Board → Pairs → Outcome
 commit_of t p b u =
     cond (is_empty u) (read_only, with_transaction p t (in_state committed (transaction p t)))

@@ -27,7 +27,7 @@ answered f (Err e) = refusal e
 abbrev pub quiet : Unit {0} → Answer
 quiet u = Answer.done
 
--- read_only, the number given, or the number that clashes
+-- read-only, the number given, or the number that clashes
 abbrev pub verdict_listed : Verdict → Answer
 verdict_listed ReadOnly = read_only
 verdict_listed (Numbered n) = told n

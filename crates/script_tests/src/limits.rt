@@ -91,5 +91,5 @@ fn unfit_scripts_are_not_run(rt: HostRuntime) {
         Err(ShopFault::Unfit(short))
     );
     assert_eq!(rt; buffer, [b'.'; 96]);
-    assert_eq!(rt; run_shop(heap, b"B 0\nB 1\nB 4", &mut buffer), Ok(16));
+    assert_eq!(rt; run_shop(heap, b"B 0\nB 1\nB 4", &mut buffer), Ok(17));
 }
