@@ -2,3 +2,4 @@ pub mod Words
 pub mod Transactions
 pub mod Sets
 pub mod Records
+pub mod Verdicts
