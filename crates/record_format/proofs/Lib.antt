@@ -8,6 +8,7 @@ pub mod Accepting
 pub mod Standing
 pub mod Walk
 pub mod Numbering
+pub mod Handing
 pub mod Verdicts
 pub mod Whole
 pub mod Writing

@@ -1,6 +1,7 @@
 -- An item of a record that reads stands where its entry in the contents says.
-use Rattle.std.proofs.Common.{◌≡◌, ℕ, zero, suc, ◌+◌, ◌-◌, ◌*◌, ◌<◌, ◌≤◌, true, cond, ◌⊎◌, List, [], ◌∷◌, ◌++◌, map, length, get_or, take, drop, Some, None, Ok, Err, Option, Result, sym, refl, ap, ◌∙◌, subst, inl, inr, add-one, arith}
-use Rattle.std.specs.Option.{option_map}
+use Rattle.std.proofs.Common.{◌≡◌, ℕ, zero, suc, ◌+◌, ◌-◌, ◌*◌, ◌<◌, ◌≤◌, true, cond, ◌⊎◌, List, [], ◌∷◌, ◌++◌, map, length, get_or, take, drop, Some, None, Ok, Err, Option, Result, Bor, sym, refl, ap, ◌∙◌, subst, inl, inr, add-one, arith}
+use Rattle.std.specs.Option.{option_map, option_copied}
+use Rattle.std.specs.Slice.{IsItemAt}
 use Rattle.std.proofs.lemmas.Bool.{cond-true, cond-false, cases_Bool}
 use Rattle.std.proofs.ByRecursion.{All-drop}
 use Rattle.std.proofs.lemmas.List.{drop-drop, length-drop, length-map, length-take-le, get_or-drop}
@@ -295,3 +296,8 @@ numbered_at f xs n d l h = let e : suc (n - 1) ≡ n = omega arith in numbered_s
 
 pub none_past : {A B : Type 0} (f : A → B) (xs : List A) (n : ℕ) → (n < 1) ⊎ ((1 ≤ n) × (length xs < n)) → None ≡ numbered (map f xs) n
 none_past f xs n h = sym (numbered_past (map f xs) n (subst (λ (k : ℕ). (n < 1) ⊎ ((1 ≤ n) × (k < n))) (sym (length-map xs f)) h))
+
+-- what `get` finds at a place, by the number of that place
+pub got_by_number : {A B : Type 0} (f : A → B) (xs : List A) (n : ℕ) (r : Option (Bor A)) → 1 ≤ n → IsItemAt xs (n - 1) r → option_map f (option_copied r) ≡ numbered (map f xs) n
+got_by_number f xs n None l h = none_past f xs n (inr (l, omega (arith, h.3, l)))
+got_by_number f xs n (Some x) l h = ap (λ y. Some (f y)) h.1 ∙ numbered_at f xs n x.now l (omega (arith, h.3.0))

@@ -6,10 +6,12 @@ ghost use Rattle.record_format.specs.Laws.{RoundTrips, SizeLaws, Examples};
 pub mod fault;
 pub mod numbered_set;
 pub mod numbered_sets;
+pub mod order;
 
 pub use fault::RecordFault;
 pub use numbered_set::NumberedSet;
 pub use numbered_sets::NumberedSets;
+pub use order::{InOrder, in_order};
 
 /// The most items that a run has.
 pub const MOST_ITEMS: usize = 256;
@@ -31,22 +33,16 @@ pub const PAIR_BYTES: usize = 5;
 pub const LONGEST: usize = 11_778;
 
 /// What is written of a run reads back as the same items, and what reads is written back as the same bytes.
-pub fn round_trips_stand() -> bool
+pub fn round_trips_stand()
     ensures law { RoundTrips }
-{
-    true
-}
+{}
 
 /// No record is longer than 256 items of eight pairs, and every offset fits its two bytes.
-pub fn sizes_stand() -> bool
+pub fn sizes_stand()
     ensures law { SizeLaws }
-{
-    true
-}
+{}
 
 /// The worked examples of the format.
-pub fn examples_stand() -> bool
+pub fn examples_stand()
     ensures law { Examples }
-{
-    true
-}
+{}

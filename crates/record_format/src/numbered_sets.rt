@@ -27,10 +27,6 @@ impl NumberedSets for &[NumberedSet] {
     }
 
     fn item(&self, n: usize) -> Option<NumberedSet> {
-        let count = self.len();
-        if n < 1 || n > count {
-            return None;
-        }
-        Some(self[n - 1])
+        self.get(n.checked_sub(1)?).copied()
     }
 }

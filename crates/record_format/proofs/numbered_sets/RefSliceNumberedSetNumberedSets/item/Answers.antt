@@ -1,9 +1,11 @@
+use Rattle.std.proofs.Common.{ap, ◌∙◌, subst}
+use Rattle.std.specs.Option.{option_map}
+use Rattle.std.specs.Slice.{IsItemAt}
 use Rattle.record_format.specs.Meaning.{item_of}
-use Rattle.record_format.proofs.Numbering.{numbered_at, none_past}
+use Rattle.record_format.proofs.Numbering.{got_by_number}
 use Rattle.record_format.proofs.numbered_sets.RefSliceNumberedSetNumberedSets.item.Goals as goal
 
-pub returns-then-n-lt1 : goal.returns-then-n-lt1
-returns-then-n-lt1 c = record { answer = none_past item_of c.args.self.now.now c.args.n c.then-n-lt1.either }
-
 pub returns : goal.returns
-returns c = record { answer = numbered_at item_of c.args.self.now.now c.args.n _ c.if-n-lt1.false c.if-n-count.false }
+returns c =
+    let at = c.in_ok-checked_sub.ensures in
+    record { answer = ap (option_map item_of) c.copied.ensures ∙ got_by_number item_of c.args.self.now.now c.args.n c.get.result at.0 (subst (λ i. IsItemAt c.args.self.now.now i c.get.result) at.1 c.get.ensures.lookup) }
