@@ -3,3 +3,4 @@ pub mod Listing
 pub mod Serving
 pub mod Runs
 pub mod Records
+pub mod Text

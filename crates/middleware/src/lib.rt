@@ -2,6 +2,7 @@
 #![tactic(auto)]
 
 pub mod answer;
+mod display;
 pub mod fault;
 pub mod middleware;
 pub mod queues;
