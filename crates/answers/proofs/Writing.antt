@@ -1,6 +1,6 @@
 -- One write into a buffer after another is one write of both.
-use Rattle.std.proofs.Common.{◌≡◌, ℕ, ◌+◌, ◌<◌, ◌≤◌, List, [], ◌∷◌, ◌++◌, length, take, drop, set, sym, ap, ◌∙◌, subst, add-one, arith}
-use Rattle.std.proofs.lemmas.List.{append_assoc, take_at, drop_at, drop-drop, length-append, length-take-le, set_split}
+use Rattle.std.proofs.Common.{◌≡◌, ℕ, ◌+◌, ◌<◌, ◌≤◌, List, [], ◌∷◌, ◌++◌, length, take, drop, sym, ap, ◌∙◌, arith}
+use Rattle.std.proofs.lemmas.List.{append_assoc, take_at, drop_at, drop-drop, length-append, length-take-le}
 use Rattle.answers.specs.Buffers.{written, Wrote}
 
 module _ (b : List ℕ) (at : ℕ) (xs : List ℕ) (room : at + length xs ≤ length b) where
@@ -31,12 +31,3 @@ one_write_after_another {b} {b1} {b2} {at} {m} {r} {xs} {ys} room u v = record {
   after = v.after ∙ (λ i. written (u.after i) (u.ends i) ys) ∙ writing_on b at xs room ys;
   ends = omega (arith, u.ends, v.ends, length-append xs ys);
 }
-
-pub setting_writes_one_byte : (b : List ℕ) (i v : ℕ) → i < length b → Wrote b i (v ∷ []) (set b i v) (i + 1)
-setting_writes_one_byte b i v h = record {
-  after = set_split b i v h ∙ ap (λ k. take i b ++ v ∷ drop k b) (sym (add-one i));
-  ends = omega arith;
-}
-
-pub wrote_equal_bytes : {b b' xs ys : List ℕ} {at end : ℕ} → xs ≡ ys → Wrote b at xs b' end → Wrote b at ys b' end
-wrote_equal_bytes {b} {b'} {xs} {ys} {at} {end} e w = subst (λ (l : List ℕ). Wrote b at l b' end) e w

@@ -2,7 +2,6 @@
 #![tactic(auto)]
 
 pub mod answer;
-mod bytes;
 mod printing;
 
 pub use answer::{ANSWER_BYTES, Printed};
