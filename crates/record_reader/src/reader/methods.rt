@@ -10,7 +10,7 @@ use crate::entry::entry_of;
 use crate::items::item_at;
 use crate::reader::{Body, Reader, Span};
 use crate::walk::walk;
-use record_format::{NumberedSet, RecordFault};
+use record_format::{NumberedSet, NumberedSets, RecordFault};
 
 impl<'a> Reader<'a> {
     /// Reads a record whole, whatever it holds.
@@ -63,5 +63,18 @@ impl<'a> Reader<'a> {
             bytes: &self.bytes[at..at + len],
             at,
         })
+    }
+}
+
+// The items of a record that reads; none where it does not.
+impl<'a> NumberedSets for Reader<'a> {
+    ghost items = { λ r. items_in (read_from r) };
+
+    fn count(&self) -> usize {
+        self.verdict.unwrap_or(0)
+    }
+
+    fn item(&self, n: usize) -> Option<NumberedSet> {
+        Reader::item(self, n)
     }
 }
