@@ -1,4 +1,4 @@
-pub mod Pairs
 pub mod Rising
 pub mod Playing
 pub mod Sets
+pub mod Found

@@ -1,12 +1,15 @@
 -- What playing write sets does to a board, object by object.
-use Rattle.std.proofs.Common.{◌≡◌, ℕ, suc, ◌%◌, ◌^◌, ◌<◌, Bool, true, false, cond, eqb, ltb, leb, ◌≢◌, [], ◌∷◌, length, set, is_some, Some, None, Option, sym, refl, ap, ◌∙◌, inl, inr, arith, lit<}
+use Rattle.std.proofs.Common.{◌≡◌, ℕ, suc, ◌+◌, ◌%◌, ◌^◌, ◌<◌, Bool, true, false, cond, eqb, ltb, leb, ◌≢◌, List, [], ◌∷◌, map, length, get_or, drop, set, is_some, Some, None, Option, sym, refl, ap, ◌∙◌, inl, inr, arith, lit<}
 use Rattle.std.specs.List.{AllByRecursion}
 use Rattle.std.proofs.ByRecursion.{All-get_or}
 use Rattle.std.proofs.lemmas.Bool.{and_parts, leb-true, cases_eq, eq-eqb, ne_eqb, cond-true, cond-false, or_cases, or_left, or_right, both_ways}
-use Rattle.std.proofs.lemmas.List.{set_comm, length-set, get_or-set_same, get_or-set_other, ext_get_or}
+use Rattle.std.proofs.lemmas.List.{set_comm, length-set, get_or-set_same, get_or-set_other, get_or-map, length-map, drop_more, ext_get_or}
 use Rattle.tickets.specs.Boards.{Board, value, tops}
 use Rattle.tickets.specs.WriteSets.{Pairs, rising, lookup, stands, shares, play, over}
 use Rattle.tickets.specs.Laws.{Common, PlayingLaws, SharingLaws, TopsFit}
+use Rattle.tickets.specs.Pairs.{pair_of}
+use Rattle.tickets.specs.declared.pair.Pair.{Pair}
+use Rattle.tickets.proofs.Rising.{rising_next}
 
 -- the first pair may as well be played first
 pub play_first : (low j v : ℕ) (ps : Pairs) (b : Board) → j < low → rising low ps ≡ true → play ((j, v) ∷ ps) b ≡ play ps (set b j v)
@@ -115,3 +118,13 @@ every_top_fits = (lit< tt, (lit< tt, (lit< tt, (lit< tt, (lit< tt, (lit< tt, (li
 
 pub tops_fit : TopsFit
 tops_fit j = All-get_or (λ t. t < 2 ^ 32) tops (j % 8) 0 (omega arith) every_top_fits
+
+-- ---- playing the pairs of an array one by one
+
+-- playing the next pair leaves what the pairs from it on make
+pub play_next : (xs : List Pair) (i : ℕ) (d : Pair) (b : Board) → rising 0 (map pair_of xs) ≡ true → i < length xs → play (drop i (map pair_of xs)) b ≡ play (drop (i + 1) (map pair_of xs)) (set b (get_or xs i d).object (get_or xs i d).value)
+play_next xs i d b r h =
+    let ps = map pair_of xs in
+    let p = get_or xs i d in
+    let e : drop i ps ≡ pair_of p ∷ drop (i + 1) ps = drop_more ps i (pair_of d) (omega (arith, length-map xs pair_of)) ∙ ap (λ (q : ℕ × ℕ). q ∷ drop (i + 1) ps) (get_or-map pair_of xs i d (pair_of d) h) in
+    ap (λ (qs : Pairs). play qs b) e ∙ play_first (suc p.object) p.object p.value (drop (i + 1) ps) b (omega arith) (rising_next i 0 p.object p.value ps _ r e)

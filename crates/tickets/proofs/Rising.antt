@@ -1,29 +1,27 @@
 -- Pairs whose objects rise: as a test, in an array, and with one more behind the others.
-use Rattle.std.proofs.Common.{◌≡◌, ℕ, zero, suc, ◌+◌, ◌<◌, ◌≤◌, Bool, true, false, ◌&&◌, ltb, leb, List, [], ◌∷◌, ◌++◌, length, get_or, drop, Some, None, sym, refl, ap, ◌∙◌, arith}
-use Rattle.std.proofs.lemmas.Bool.{and_parts, and_from, and_left, and_right, le-leb, lt-leb, lt-ltb, le-ltb, cond-true, cond-false}
-use Rattle.std.proofs.lemmas.List.{length-append}
-use Rattle.tickets.specs.WriteSets.{Pairs, rising}
+use Rattle.std.proofs.Common.{◌≡◌, ℕ, zero, suc, ◌<◌, ◌≤◌, Bool, true, false, ◌&&◌, ltb, leb, List, [], ◌∷◌, ◌++◌, length, get_or, drop, Some, None, sym, refl, ap, ◌∙◌, arith}
+use Rattle.std.proofs.lemmas.Bool.{ltb-true, and_parts, and_from, and_left, and_right, le-leb, lt-leb, lt-ltb, le-ltb, cond-true, cond-false}
+use Rattle.std.proofs.lemmas.List.{length_push}
+use Rattle.tickets.specs.WriteSets.{Pairs, rising, is_write_set}
 use Rattle.tickets.specs.Meaning.{pairs_of, built}
+use Rattle.tickets.specs.declared.pair.Pair.{Pair}
 
 -- the lowest object that may follow
 abbrev pub after : ℕ → Pairs → ℕ
 after low [] = low
 after low ((j, v) ∷ ps) = after (suc j) ps
 
-pub rising_array : (n low : ℕ) (os vs : List ℕ) → n ≤ length os → n ≤ length vs → (0 < n → low ≤ get_or os 0 0) → ((i : ℕ) → i < n → get_or os i 0 < 128) → ((i : ℕ) → i + 1 < n → get_or os i 0 < get_or os (i + 1) 0) → rising low (pairs_of n os vs) ≡ true
-rising_array zero low os vs ho hv f w r = refl
-rising_array (suc n) low [] vs ho hv f w r = absurd (omega arith)
-rising_array (suc n) low (o ∷ os) [] ho hv f w r = absurd (omega arith)
-rising_array (suc n) low (o ∷ os) (v ∷ vs) ho hv f w r =
-    and_from _ _ (le-leb low o (f (omega arith)))
-    (and_from _ _ (lt-ltb o 128 (w 0 (omega arith)))
-    (rising_array n (suc o) os vs (omega arith) (omega arith) (λ h. r 0 (omega arith)) (λ i h. w (suc i) (omega arith)) (λ i h. let e : suc i + 1 ≡ suc (i + 1) = omega arith in omega (arith, r (suc i) (omega arith), ap (λ k. get_or (o ∷ os) k 0) e))))
+-- the objects of rising pairs lie below 128
+pub rising_below : (low : ℕ) (ps : Pairs) (i : ℕ) → rising low ps ≡ true → i < length ps → (get_or ps i (0, 0)).0 < 128
+rising_below low [] i r h = absurd (omega arith)
+rising_below low ((j, v) ∷ ps) zero r h = ltb-true j 128 (and_parts (ltb j 128) _ (and_parts (leb low j) _ r).1).0
+rising_below low ((j, v) ∷ ps) (suc i) r h = rising_below (suc j) ps i (and_parts (ltb j 128) _ (and_parts (leb low j) _ r).1).1 (omega arith)
 
-pub after_array : (n low : ℕ) (os vs : List ℕ) → n < length os → n < length vs → after low (pairs_of (suc n) os vs) ≡ suc (get_or os n 0)
-after_array n low [] vs ho hv = absurd (omega arith)
-after_array n low (o ∷ os) [] ho hv = absurd (omega arith)
-after_array zero low (o ∷ os) (v ∷ vs) ho hv = refl
-after_array (suc n) low (o ∷ os) (v ∷ vs) ho hv = after_array n (suc o) os vs (omega arith) (omega arith)
+-- behind the first n + 1 pairs of an array comes what is above the last of them
+pub after_array : (n low : ℕ) (xs : List Pair) (d : Pair) → n < length xs → after low (pairs_of (suc n) xs) ≡ suc (get_or xs n d).object
+after_array n low [] d h = absurd (omega arith)
+after_array zero low (x ∷ xs) d h = refl
+after_array (suc n) low (x ∷ xs) d h = after_array n (suc x.object) xs d (omega arith)
 
 one_last : (a b : Bool) → a && (b && true) ≡ a && b
 one_last true true = refl
@@ -41,14 +39,14 @@ rising_push low ((i, u) ∷ ps) j v r = under_both (leb low i) (ltb i 128) (risi
 
 -- ---- one more pair behind the others
 
-length_push : (ps : Pairs) (j v : ℕ) → length (ps ++ (j, v) ∷ []) ≡ length ps + 1
-length_push ps j v = omega (arith, length-append ps ((j, v) ∷ []))
+pub push_stands : (ps : Pairs) (j v : ℕ) → rising 0 ps ≡ true → length ps < 8 → after 0 ps ≤ j → j < 128 → is_write_set (ps ++ (j, v) ∷ []) ≡ true
+push_stands ps j v r few above within =
+    let n = length_push ps (j, v) in
+    let m = length (ps ++ (j, v) ∷ []) in
+    and_from _ _ (lt-ltb 0 m (omega arith)) (and_from _ _ (le-leb m 8 (omega arith)) (rising_push 0 ps j v r ∙ and_from _ _ (le-leb _ _ above) (lt-ltb _ _ within)))
 
 pub push_built : (ps : Pairs) (j v : ℕ) → rising 0 ps ≡ true → length ps < 8 → after 0 ps ≤ j → j < 128 → built (ps ++ (j, v) ∷ []) ≡ Some (ps ++ (j, v) ∷ [])
-push_built ps j v r few above within =
-    let n = length_push ps j v in
-    let m = length (ps ++ (j, v) ∷ []) in
-    cond-true _ _ _ (and_from _ _ (lt-ltb 0 m (omega arith)) (and_from _ _ (le-leb m 8 (omega arith)) (rising_push 0 ps j v r ∙ and_from _ _ (le-leb _ _ above) (lt-ltb _ _ within))))
+push_built ps j v r few above within = cond-true _ _ _ (push_stands ps j v r few above within)
 
 -- no write set: not rising
 unbuilt : (ps : Pairs) (j v : ℕ) → rising 0 (ps ++ (j, v) ∷ []) ≡ false → built (ps ++ (j, v) ∷ []) ≡ None
@@ -56,7 +54,7 @@ unbuilt ps j v f = cond-false _ _ _ (and_right (ltb 0 (length (ps ++ (j, v) ∷ 
 
 pub push_ninth : (ps : Pairs) (j v : ℕ) → 8 ≤ length ps → built (ps ++ (j, v) ∷ []) ≡ None
 push_ninth ps j v many =
-    let n = length_push ps j v in
+    let n = length_push ps (j, v) in
     cond-false _ _ _ (and_right (ltb 0 (length (ps ++ (j, v) ∷ []))) _ (and_left (leb (length (ps ++ (j, v) ∷ [])) 8) (rising 0 (ps ++ (j, v) ∷ [])) (lt-leb (length (ps ++ (j, v) ∷ [])) 8 (omega arith))))
 
 pub push_outside : (ps : Pairs) (j v : ℕ) → rising 0 ps ≡ true → 128 ≤ j → built (ps ++ (j, v) ∷ []) ≡ None

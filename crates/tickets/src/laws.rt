@@ -2,22 +2,16 @@
 ghost use Rattle.tickets.specs.Laws.{PlayingLaws, SharingLaws, TopsFit};
 
 /// What playing does at each object; the later write stays; write sets that share nothing may change places.
-pub fn playing_laws_stand() -> bool
+pub fn playing_laws_stand()
     ensures law { PlayingLaws }
-{
-    true
-}
+{}
 
 /// Sharing is an object that stands in both.
-pub fn sharing_laws_stand() -> bool
+pub fn sharing_laws_stand()
     ensures law { SharingLaws }
-{
-    true
-}
+{}
 
 /// Every top fits in 32 bits: computed once over the whole table.
-pub fn tops_fit() -> bool
+pub fn tops_fit()
     ensures law { TopsFit }
-{
-    true
-}
+{}

@@ -1,20 +1,21 @@
 // A write set: one to eight pairs of object and value, whose objects rise strictly and lie below 128.
 // The invariant stands in the type, so no other write set exists.
-ghost use Rattle.std.specs.Prelude.{◌≡◌, ℕ, ◌+◌, ◌<◌, ◌≤◌, length, slice_index};
+ghost use Rattle.std.specs.Prelude.{◌≡◌, ◌≤◌, length, IsTrue};
+ghost use Rattle.tickets.specs.WriteSets.{is_write_set};
+ghost use Rattle.tickets.specs.Pairs.{pairs_of};
+
+use crate::pair::Pair;
 
 mod methods;
 
 pub const MOST_PAIRS: usize = 8;
 
+// An array with a length beside it: a write set is copied without heap memory, and no vector of std's is `Copy`.
 #[derive(Clone, Copy)]
 pub struct WriteSet {
-    objects: [u8; 8],
-    values: [u32; 8],
+    pairs: [Pair; 8],
     len: usize,
-    ghost some: { 1 ≤ len },
+    ghost eight: { length pairs ≡ 8 },
     ghost few: { len ≤ 8 },
-    ghost eight_objects: { length objects ≡ 8 },
-    ghost eight_values: { length values ≡ 8 },
-    ghost within: { (i : ℕ) → i < len → slice_index objects i < 128 },
-    ghost rises: { (i : ℕ) → i + 1 < len → slice_index objects i < slice_index objects (i + 1) },
+    ghost stands: { IsTrue (is_write_set (pairs_of len pairs)) },
 }

@@ -2,7 +2,7 @@ ghost use Rattle.std.specs.Prelude.{◌≡◌, replicate, if◌then◌else◌, S
 ghost use Rattle.tickets.specs.Boards.{value};
 ghost use Rattle.tickets.specs.Meaning.{values};
 
-use crate::board::{Board, OBJECTS};
+use crate::board::Board;
 
 impl Board {
     /// The board of all zeros.
@@ -16,9 +16,6 @@ impl Board {
     pub fn value(&self, object: usize) -> Option<u32>
         ensures answer { result ≡ (if nat_lt object 128 then Some (value (values self.now) object) else None) }
     {
-        if object >= OBJECTS {
-            return None;
-        }
-        Some(self.values[object])
+        self.values.get(object).copied()
     }
 }

@@ -1,4 +1,4 @@
-ghost use Rattle.std.specs.Prelude.{◌≡◌, ℕ, ◌+◌, ◌<◌, ◌≤◌, List, [], ◌∷◌, ◌++◌, length, if◌then◌else◌, Some, None, nat_lt, slice_index_or};
+ghost use Rattle.std.specs.Prelude.{◌≡◌, ℕ, ◌+◌, ◌<◌, ◌≤◌, List, [], ◌∷◌, ◌++◌, map, length, All, if◌then◌else◌, Some, None, nat_lt, slice_index_or};
 ghost use Rattle.std.specs.Option.{option_map};
 ghost use Rattle.tickets.specs.WriteSets.{lookup, shares, play};
 ghost use Rattle.tickets.specs.Meaning.{pair_of, pairs, values, built, set_pairs};
@@ -15,13 +15,8 @@ impl WriteSet {
         if pair.object >= OBJECTS {
             return None;
         }
-        let mut objects = [0u8; 8];
-        let mut values = [0u32; 8];
-        objects[0] = pair.object as u8;
-        values[0] = pair.value;
         Some(WriteSet {
-            objects,
-            values,
+            pairs: [pair; MOST_PAIRS],
             len: 1,
         })
     }
@@ -34,19 +29,21 @@ impl WriteSet {
         if n >= MOST_PAIRS || pair.object >= OBJECTS {
             return None;
         }
-        let object = pair.object as u8;
-        if self.objects[n - 1] >= object {
+        if self.pairs[n - 1].object >= pair.object {
             return None;
         }
-        let mut objects = self.objects;
-        let mut values = self.values;
-        objects[n] = object;
-        values[n] = pair.value;
-        Some(WriteSet {
-            objects,
-            values,
-            len: n + 1,
-        })
+        let mut pairs = self.pairs;
+        pairs[n] = pair;
+        Some(WriteSet { pairs, len: n + 1 })
+    }
+
+    /// Its pairs, in order.
+    pub fn pairs(&self) -> &[Pair]
+        ensures answer { map pair_of result.now ≡ pairs self.now }
+        ensures bounds { (1 ≤ length result.now) × (length result.now ≤ 8) }
+        ensures objects { All (λ (p : Pair). p.object < 128) result.now }
+    {
+        &self.pairs[..self.len]
     }
 
     /// How many pairs it has.
@@ -61,44 +58,34 @@ impl WriteSet {
     pub fn pair(&self, i: usize) -> Option<Pair>
         ensures answer { option_map pair_of result ≡ (if nat_lt i (length (pairs self.now)) then Some (slice_index_or (pairs self.now) i (0, 0)) else None) }
     {
-        if i >= self.len {
-            return None;
-        }
-        let object = self.objects[i] as usize;
-        let value = self.values[i];
-        Some(Pair { object, value })
+        self.pairs().get(i).copied()
     }
 
     /// The value that it has for an object, if any.
     pub fn lookup(&self, object: usize) -> Option<u32>
         ensures answer { result ≡ lookup (pairs self.now) object }
     {
-        for i in 0..self.len {
-            if self.objects[i] as usize == object {
-                return Some(self.values[i]);
-            }
-        }
-        None
+        self.pairs()
+            .iter()
+            .find(|pair| object == pair.object)
+            .map(|pair| pair.value)
     }
 
     /// Whether some object stands in both.
     pub fn shares(&self, other: &WriteSet) -> bool
         ensures answer { result ≡ shares (pairs self.now) (pairs other.now) }
     {
-        for i in 0..self.len {
-            if other.lookup(self.objects[i] as usize).is_some() {
-                return true;
-            }
-        }
-        false
+        self.pairs()
+            .iter()
+            .any(|pair| other.lookup(pair.object).is_some())
     }
 
     /// Replaces the named values, and leaves the others.
     pub fn play(&self, board: &mut Board)
         ensures after { values board.new ≡ play (pairs self.now) (values board.old) }
     {
-        for i in 0..self.len {
-            board.values[self.objects[i] as usize] = self.values[i];
+        for pair in self.pairs() {
+            board.values[pair.object] = pair.value;
         }
     }
 }

@@ -1,23 +1,17 @@
-use Rattle.std.proofs.Common.{get_or, sym, ap, ◌∙◌}
-use Rattle.std.proofs.lemmas.Bool.{cond-true, cond-false, eq-eqb, ne_eqb}
+use Rattle.std.proofs.Common.{◌≡◌, ◌==◌, ap, ◌∙◌, rules}
+use Rattle.std.proofs.lemmas.Iterator.{YieldsList-from_slice}
+use Rattle.std.proofs.lemmas.Iterator.Search.{find_from_yields_List}
+use Rattle.std.specs.Borrow.{Bor}
+use Rattle.std.specs.Option.{option_map}
 use Rattle.tickets.specs.WriteSets.{Pairs, lookup}
-use Rattle.tickets.proofs.Sets.{next_pair, no_pair}
+use Rattle.tickets.specs.declared.pair.Pair.{Pair}
+use Rattle.tickets.proofs.Found.{lookup_first}
 use Rattle.tickets.proofs.write_set.WriteSet.lookup.Goals as goal
-
-pub returns-then-self-i : goal.returns-then-self-i
-returns-then-self-i c =
-    let w = c.args.self.now in
-    let e = next_pair w c.loop-i.i c.loop-i-test.true in
-    record { answer = sym (sym c.loop-i.invariant ∙ ap (λ (ps : Pairs). lookup ps c.args.object) e ∙ cond-true _ _ _ (eq-eqb c.args.object (get_or w.objects c.loop-i.i 0) (sym c.if-self-i.true))) }
-
-pub loop-i-preserved : goal.loop-i-preserved
-loop-i-preserved c =
-    let w = c.args.self.now in
-    let e = next_pair w c.loop-i.i c.loop-i-test.true in
-    sym (ap (λ (ps : Pairs). lookup ps c.args.object) e ∙ cond-false _ _ _ (ne_eqb c.args.object (get_or w.objects c.loop-i.i 0) (λ h. c.if-self-i.false (sym h)))) ∙ c.loop-i.invariant
+use borrow.Author.Tests.{tests}
 
 pub returns : goal.returns
 returns c =
-    let w = c.args.self.now in
-    let e = no_pair w c.loop-i.i c.loop-i-test.false in
-    record { answer = sym (ap (λ (ps : Pairs). lookup ps c.args.object) e) ∙ c.loop-i.invariant }
+    let xs = c.pairs.result.now in
+    let found = find_from_yields_List (λ (p : Pair). c.args.object == p.object) _ _ c.find.result c.find.ensures.ran (YieldsList-from_slice xs cc) (λ x b q k. search (rules, tests)) in
+    let mapped : c.map.result ≡ option_map (λ (y : Bor Pair). y.now.value) c.find.result = search rules in
+    record { answer = mapped ∙ lookup_first xs c.args.object c.find.result found ∙ ap (λ (ps : Pairs). lookup ps c.args.object) c.pairs.ensures.answer }

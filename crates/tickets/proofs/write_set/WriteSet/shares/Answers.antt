@@ -1,28 +1,17 @@
-use Rattle.std.proofs.Common.{◌+◌, ◌||◌, drop, is_some, sym, ap, ◌∙◌}
-use Rattle.std.proofs.lemmas.Bool.{or_left}
-use Rattle.tickets.specs.WriteSets.{Pairs, shares}
+use Rattle.std.proofs.Common.{◌≡◌, sym, ap, ◌∙◌, rules}
+use Rattle.std.proofs.lemmas.Iterator.{YieldsList-from_slice}
+use Rattle.std.proofs.lemmas.Iterator.Search.{any_from_yields_List}
+use Rattle.std.specs.List.{list_any}
+use Rattle.tickets.specs.WriteSets.{Pairs, stands, shares}
 use Rattle.tickets.specs.Meaning.{pairs}
-use Rattle.tickets.proofs.Sets.{next_pair, no_pair}
+use Rattle.tickets.specs.declared.pair.Pair.{Pair}
+use Rattle.tickets.proofs.Found.{shares_any}
 use Rattle.tickets.proofs.write_set.WriteSet.shares.Goals as goal
+use borrow.Author.Tests.{tests}
 
 pub returns : goal.returns
 returns c =
-    let w = c.args.self.now in
-    let e = no_pair w c.loop-i.i c.loop-i-test.false in
-    record { answer = sym (ap (λ (ps : Pairs). shares ps (pairs c.args.other.now)) e) ∙ c.loop-i.invariant }
-
-pub returns-then-is_some : goal.returns-then-is_some
-returns-then-is_some c =
-    let w = c.args.self.now in
+    let xs = c.pairs.result.now in
     let qs = pairs c.args.other.now in
-    let e = next_pair w c.loop-i.i c.loop-i-test.true in
-    let found = ap is_some (sym c.lookup.ensures.answer) ∙ sym c.if-is_some.ensures in
-    record { answer = sym (sym c.loop-i.invariant ∙ ap (λ (ps : Pairs). shares ps qs) e ∙ or_left _ _ found) }
-
-pub loop-i-preserved : goal.loop-i-preserved
-loop-i-preserved c =
-    let w = c.args.self.now in
-    let qs = pairs c.args.other.now in
-    let e = next_pair w c.loop-i.i c.loop-i-test.true in
-    let absent = ap is_some (sym c.lookup.ensures.answer) ∙ sym c.if-is_some.ensures in
-    sym (ap (λ (ps : Pairs). shares ps qs) e ∙ ap (λ b. b || shares (drop (c.loop-i.i + 1) (pairs w)) qs) absent) ∙ c.loop-i.invariant
+    let any : c.any.result ≡ list_any (λ (p : Pair). stands qs p.object) xs = any_from_yields_List (λ (p : Pair). stands qs p.object) _ _ _ c.any.ensures.ran (YieldsList-from_slice xs cc) (λ x b q k. search (rules, tests)) in
+    record { answer = any ∙ sym (shares_any xs qs) ∙ ap (λ (ps : Pairs). shares ps qs) c.pairs.ensures.answer }
