@@ -7,7 +7,7 @@ use Rattle.tickets.specs.WriteSets.{Pairs, rising, lookup, stands, play, over}
 use Rattle.tickets.specs.Meaning.{pairs}
 use Rattle.tickets.specs.declared.write_set.WriteSet.{WriteSet}
 use Rattle.tickets.proofs.Playing.{length-play, value_play}
-use Rattle.tickets.proofs.Sets.{length_pairs, pairs_rise}
+use Rattle.tickets.proofs.Sets.{length_pairs, some_pairs, pairs_rise}
 use Rattle.stores.specs.Model.{no_writes, with_write, or_else, played}
 use Rattle.stores.proofs.Steps.{length-played, get_or-played}
 
@@ -19,7 +19,7 @@ pub record Fit (ps : Pairs) : Type 0 where
   pub rises : rising 0 ps ≡ true
 
 pub set_fits : (w : WriteSet) → Fit (pairs w)
-set_fits w = let n = length_pairs w in record { some = omega arith; few = omega arith; rises = pairs_rise w }
+set_fits w = let n = length_pairs w in let s = some_pairs w in record { some = omega arith; few = omega arith; rises = pairs_rise w }
 
 -- ---- one by one
 

@@ -6,7 +6,6 @@ use Rattle.tickets.specs.Boards.{top}
 use Rattle.tickets.specs.WriteSets.{Pairs, rising, is_write_set}
 use Rattle.tickets.specs.Meaning.{built, pairs}
 use Rattle.tickets.specs.declared.write_set.WriteSet.{WriteSet}
-use Rattle.tickets.proofs.Sets.{length_pairs, pairs_rise}
 use Rattle.record_format.specs.Items.{within_tops, fine_pairs, topped, accepted}
 use Rattle.record_format.specs.Reading.{pair_in, pairs_in}
 use Rattle.record_format.proofs.Places.{pair_number}
@@ -18,9 +17,7 @@ none≢some e = let z : ◌≡◌ {A = ℕ} 0 1 = cc in omega arith
 -- ---- the type of write sets keeps what makes one
 
 pub is_a_write_set : (w : WriteSet) → is_write_set (pairs w) ≡ true
-is_a_write_set w =
-    let n = length_pairs w in
-    and_from _ _ (lt-ltb 0 (length (pairs w)) (omega arith)) (and_from _ _ (le-leb (length (pairs w)) 8 (omega arith)) (pairs_rise w))
+is_a_write_set w = w.stands
 
 -- ---- a test of a pair, and a test of pairs
 
