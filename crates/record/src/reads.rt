@@ -8,7 +8,7 @@ ghost use Rattle.record_format.specs.Calls.{check_answer, MadeOf, SetsOf};
 ghost use Rattle.record_format.specs.Faults.{listed};
 ghost use Rattle.record_format.specs.Meaning.{items_of};
 
-use record_format::{NumberedSet, RecordFault};
+use record_format::{NumberedSet, RecordFault, in_order};
 use record_reader::Reader;
 use std::alloc::Global;
 use tickets::Board;
@@ -27,10 +27,8 @@ pub fn play(bytes: &[u8], board: &mut Board) -> Result<usize, RecordFault>
 {
     let reader = Reader::new(bytes);
     let count = reader.count()?;
-    for i in 0..count {
-        if let Some(item) = reader.item(i + 1) {
-            item.set.play(board);
-        }
+    for item in in_order(&reader) {
+        item.set.play(board);
     }
     Ok(count)
 }
@@ -41,12 +39,6 @@ pub fn read(heap: Global, bytes: &[u8]) -> Result<Vec<NumberedSet>, RecordFault>
     ensures writes_back { IfOk result (λ sets. encoded (items_of sets.items) ≡ bytes.now) }
 {
     let reader = Reader::new(bytes);
-    let count = reader.count()?;
-    let mut sets = Vec::with_capacity(heap, count)?;
-    for i in 0..count {
-        if let Some(set) = reader.item(i + 1) {
-            sets.push_reserved(set);
-        }
-    }
-    Ok(sets)
+    reader.count()?;
+    Ok(in_order(&reader).collect(heap)?)
 }

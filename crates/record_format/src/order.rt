@@ -34,4 +34,9 @@ impl<'a, R: NumberedSets> Iterator for InOrder<'a, R> {
         self.passed += 1;
         self.run.item(self.passed)
     }
+
+    fn size_hint(&self) -> (usize, Option<usize>) {
+        let left = self.run.count().saturating_sub(self.passed);
+        (left, Some(left))
+    }
 }
