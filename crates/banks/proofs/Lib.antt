@@ -1,3 +1,5 @@
 pub mod Others
 pub mod Calls
+pub mod Writes
 mod One
+mod Settles

@@ -1,6 +1,5 @@
 // Why a bank refuses a call: there is no such replica, or the store there refuses it.
-ghost use Rattle.std.specs.Prelude.{◌≡◌, Ok, Err, MatchResult};
-ghost use Rattle.banks.specs.declared.fault.BankFault.TheVariants.{At};
+ghost use Rattle.std.specs.Prelude.{◌≡◌};
 ghost use Rattle.banks.specs.Model.{lifted};
 
 use stores::StoreFault;
@@ -11,27 +10,9 @@ pub enum BankFault {
     At(u8, StoreFault),
 }
 
-impl From<(u8, StoreFault)> for BankFault {
-    ghost from_gives = { λ e r. r ≡ At e.0 e.1 };
-
-    fn from(e: (u8, StoreFault)) -> BankFault {
-        BankFault::At(e.0, e.1)
-    }
-}
-
-// What was answered, with a tag beside the fault.
-fn tagged<T, E, C: Drop>(tag: C, r: Result<T, E>) -> Result<T, (C, E)>
-    ensures answer { MatchResult result (λ x. r ≡ Ok x) (λ e. (e.0 ≡ tag) × (r ≡ Err e.1)) }
-{
-    match r {
-        Ok(x) => Ok(x),
-        Err(e) => Err((tag, e)),
-    }
-}
-
 // What a store answered, as its bank answers it.
 pub(crate) fn at_replica<T>(replica: u8, r: Result<T, StoreFault>) -> Result<T, BankFault>
     ensures answer { result ≡ lifted replica r }
 {
-    Ok(tagged(replica, r)?)
+    r.map_err(|fault| BankFault::At(replica, fault))
 }
