@@ -37,6 +37,24 @@ pub listed_as : {A : Type 0} (f : A → Answer) (what : Asked) (r : Result A Rea
 listed_as f what (Ok a) = refl
 listed_as f what (Err e) = refl
 
+-- what was asked stands beside a refusal
+named_so : {A : Type 0} (what : Asked) (q : Result A Reason) → Names what (asked_to what q)
+named_so what (Ok a) = tt
+named_so what (Err e) = refl
+
+pub named : {A : Type 0} (what : Asked) (q : Result A Reason) (r : Result A BoardFault) → r ≡ asked_to what q → Names what r
+named {A} what q r e = subst (λ (x : Result A BoardFault). Names what x) (sym e) (named_so what q)
+
+-- what the contract of a call that changes the board says, and of one that changes nothing
+pub record Changed {A : Type 0} (f : A → Answer) (c : Call) (before : Machine) (r : Result A BoardFault) (after : Machine) : Type 0 where
+  pub law : Serves c before (result_listed f r) after
+  pub stays : Stays before (result_listed f r) after
+  pub names : Names (Queued c) r
+
+pub record Looked {A : Type 0} (f : A → Answer) (c : Call) (m : Machine) (r : Result A BoardFault) : Type 0 where
+  pub law : Tells c m (result_listed f r)
+  pub names : Names (Queued c) r
+
 module _ {A : Type 0} (f : A → Answer) (c : Call) (before : Machine) (q : Result A Reason) (r : Result A BoardFault) (said : r ≡ asked_as c q) where
   list : result_listed f r ≡ answered f q
   list = ap (result_listed f) said ∙ listed_as f (Queued c) q
@@ -45,16 +63,23 @@ module _ {A : Type 0} (f : A → Answer) (c : Call) (before : Machine) (q : Resu
   reached : (after : Machine) (o : Came A) → machine_step c before ≡ came f o → q ≡ o.answer → after ≡ o.after → machine_step c before ≡ (result_listed f r, after)
   reached after o is answer left = is ∙ (λ i. (sym (list ∙ ap (answered f) answer) i, sym left i))
 
-  pub serves : (after : Machine) (o : Came A) → machine_step c before ≡ came f o → q ≡ o.answer → after ≡ o.after → Serves c before (result_listed f r) after
+  serves : (after : Machine) (o : Came A) → machine_step c before ≡ came f o → q ≡ o.answer → after ≡ o.after → Serves c before (result_listed f r) after
   serves after o is answer left sound =
       subst (λ (x : Answer × Machine). Follows (board_step c (plain_of before)) x.0 x.1) (reached after o is answer left) (every_call c before sound)
 
-  pub stays : (after : Machine) (o : Came A) → machine_step c before ≡ came f o → q ≡ o.answer → after ≡ o.after → Stays before (result_listed f r) after
+  stays : (after : Machine) (o : Came A) → machine_step c before ≡ came f o → q ≡ o.answer → after ≡ o.after → Stays before (result_listed f r) after
   stays after o is answer left = subst (λ (x : Answer × Machine). Stays before x.0 x.1) (reached after o is answer left) (every_refusal_stays c before)
 
-  pub tells : (o : Result A Reason) → machine_step c before ≡ (answered f o, before) → q ≡ o → Tells c before (result_listed f r)
+  pub changed : (after : Machine) (o : Came A) → machine_step c before ≡ came f o → q ≡ o.answer → after ≡ o.after → Changed f c before r after
+  changed after o is answer left =
+      record { law = serves after o is answer left; stays = stays after o is answer left; names = named (Queued c) q r said }
+
+  tells : (o : Result A Reason) → machine_step c before ≡ (answered f o, before) → q ≡ o → Tells c before (result_listed f r)
   tells o is answer sound =
       list ∙ ap (answered f) answer ∙ sym (ap (λ (x : Answer × Machine). x.0) is) ∙ (every_call c before sound).answer
+
+  pub looked : (o : Result A Reason) → machine_step c before ≡ (answered f o, before) → q ≡ o → Looked f c before r
+  looked o is answer = record { law = tells o is answer; names = named (Queued c) q r said }
 
 -- a numbered write set is listed by what it means
 listed_set : (r : Result Numbered Reason) → answered (λ (w : Numbered). set_listed (set_of w)) r ≡ answered set_listed (set_seen r)
@@ -77,7 +102,7 @@ whole_set c q r o said answer = ap set_held said ∙ held_as c q ∙ ap (asked_a
 -- ---- the same call as one of a queue
 
 -- its refusal carries the call
-pub carried : {A : Type 0} (c : Call) (r : Result A BoardFault) (a : Answer') → refusal_in a ≡ refusal_of r → Names (Queued c) r → Carries c a
+carried : {A : Type 0} (c : Call) (r : Result A BoardFault) (a : Answer') → refusal_in a ≡ refusal_of r → Names (Queued c) r → Carries c a
 carried c (Ok x) a e n = subst (Asks (Queued c)) (sym e) tt
 carried c (Err f) a e n = subst (Asks (Queued c)) (sym e) n
 
@@ -88,13 +113,23 @@ serves_listed c before a b after e f sound =
     record { answer = e ∙ x.answer; after = x.after; sound = x.sound }
 
 -- a call that changes nothing
-pub serves_told : (c : Call) (m : Machine) (a b : Answer) → (machine_step c m).1 ≡ m → b ≡ a → Tells c m a → Serves c m b m
+serves_told : (c : Call) (m : Machine) (a b : Answer) → (machine_step c m).1 ≡ m → b ≡ a → Tells c m a → Serves c m b m
 serves_told c m a b still e f sound =
     let x = every_call c m sound in
     record { answer = e ∙ f sound; after = ap plain_of (sym still) ∙ x.after; sound = sound }
 
-pub stays_told : (m : Machine) (a : Answer) → Stays m a m
+stays_told : (m : Machine) (a : Answer) → Stays m a m
 stays_told m a = record { sound = λ _ _. refl; faultless = λ _ _. refl }
+
+pub record Answered (c : Call) (m : Machine) (a : Answer') : Type 0 where
+  pub law : Serves c m (listed a) m
+  pub stays : Stays m (listed a) m
+  pub names : Carries c a
+
+pub answered_as : {A : Type 0} (f : A → Answer) (c d : Call) (m : Machine) (r : Result A BoardFault) (a : Answer') → c ≡ d → (machine_step d m).1 ≡ m → listed a ≡ result_listed f r → refusal_in a ≡ refusal_of r → Tells d m (result_listed f r) → Names (Queued d) r → Answered c m a
+answered_as f c d m r a is still e refusal t n =
+    subst (λ (x : Call). Answered x m a) (sym is)
+    (record { law = serves_told d m (result_listed f r) (listed a) still e t; stays = stays_told m (listed a); names = carried d r a refusal n })
 
 -- ---- one more call of a queue
 
@@ -166,11 +201,3 @@ told_as c (Err x) r t e f = let z : ◌≡◌ {A = ℕ} 0 1 = cc in absurd (omeg
 pub gets_shut_place : (c : Call) (before after : Machine) (k : ℕ) (q : Result ℕ Reason) (r : Result ℕ BoardFault) → r ≡ asked_as c q → q ≡ (beginning before k).answer → after ≡ (beginning before k).after → GetsShutPlace before k r after
 gets_shut_place c before after k q r said answer left t is =
     subst (PlaceWasShut before k t) (sym left) (every_place before k t (sym answer ∙ told_as c q r t said is))
-
--- what was asked stands beside a refusal
-named_so : {A : Type 0} (what : Asked) (q : Result A Reason) → Names what (asked_to what q)
-named_so what (Ok a) = tt
-named_so what (Err e) = refl
-
-pub named : {A : Type 0} (what : Asked) (q : Result A Reason) (r : Result A BoardFault) → r ≡ asked_to what q → Names what r
-named {A} what q r e = subst (λ (x : Result A BoardFault). Names what x) (sym e) (named_so what q)

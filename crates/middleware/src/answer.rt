@@ -1,6 +1,7 @@
 // What the board answers to a call that stands in a queue.
-ghost use Rattle.std.specs.Prelude.{◌≡◌};
+ghost use Rattle.std.specs.Prelude.{◌≡◌, None};
 ghost use Rattle.ledger.specs.Sets.{set_of};
+ghost use Rattle.law.specs.History as law;
 ghost use Rattle.law.specs.History.Answer.{told};
 ghost use Rattle.refinement.specs.Answers.{quiet, verdict_listed, state_listed, set_listed, progress_listed};
 ghost use Rattle.middleware.specs.Listing.{listed, result_listed, refusal_in, refusal_of};
@@ -24,66 +25,73 @@ pub enum Answer {
     Refused(BoardFault),
 }
 
+// What an accepted call tells: how the law lists it, and the answer that it makes.
+pub(crate) trait Told {
+    ghost list: { Self → law.Answer };
+
+    fn answer(self) -> Answer
+        ensures answer { listed result ≡ list self }
+        ensures accepted { refusal_in result ≡ None };
+}
+
+impl Told for () {
+    ghost list = { quiet };
+
+    fn answer(self) -> Answer {
+        Answer::Done
+    }
+}
+
+impl Told for u32 {
+    ghost list = { told };
+
+    fn answer(self) -> Answer {
+        Answer::Number(self)
+    }
+}
+
+impl Told for Verdict {
+    ghost list = { verdict_listed };
+
+    fn answer(self) -> Answer {
+        match self {
+            Verdict::ReadOnly => Answer::ReadOnly,
+            Verdict::Numbered(n) => Answer::Number(u32::from(n)),
+            Verdict::Clash(n) => Answer::Abort(n),
+        }
+    }
+}
+
+impl Told for (TransactionState, u16) {
+    ghost list = { state_listed };
+
+    fn answer(self) -> Answer {
+        let (state, s) = self;
+        Answer::State(state, s)
+    }
+}
+
+impl Told for Numbered {
+    ghost list = { λ w. set_listed (set_of w) };
+
+    fn answer(self) -> Answer {
+        Answer::WriteSet(self)
+    }
+}
+
+impl Told for Progress {
+    ghost list = { progress_listed };
+
+    fn answer(self) -> Answer {
+        Answer::Applied(self)
+    }
+}
+
 impl Answer {
-    pub(crate) fn done(r: Result<(), BoardFault>) -> Answer
-        ensures answer { listed result ≡ result_listed quiet r }
+    pub(crate) fn of<T: Told>(r: Result<T, BoardFault>) -> Answer
+        ensures answer { listed result ≡ result_listed T.list r }
         ensures refusal { refusal_in result ≡ refusal_of r }
     {
-        match r {
-            Ok(_) => Answer::Done,
-            Err(fault) => Answer::Refused(fault),
-        }
-    }
-
-    pub(crate) fn number(r: Result<u32, BoardFault>) -> Answer
-        ensures answer { listed result ≡ result_listed told r }
-        ensures refusal { refusal_in result ≡ refusal_of r }
-    {
-        match r {
-            Ok(n) => Answer::Number(n),
-            Err(fault) => Answer::Refused(fault),
-        }
-    }
-
-    pub(crate) fn verdict(r: Result<Verdict, BoardFault>) -> Answer
-        ensures answer { listed result ≡ result_listed verdict_listed r }
-        ensures refusal { refusal_in result ≡ refusal_of r }
-    {
-        match r {
-            Ok(Verdict::ReadOnly) => Answer::ReadOnly,
-            Ok(Verdict::Numbered(n)) => Answer::Number(u32::from(n)),
-            Ok(Verdict::Clash(n)) => Answer::Abort(n),
-            Err(fault) => Answer::Refused(fault),
-        }
-    }
-
-    pub(crate) fn state(r: Result<(TransactionState, u16), BoardFault>) -> Answer
-        ensures answer { listed result ≡ result_listed state_listed r }
-        ensures refusal { refusal_in result ≡ refusal_of r }
-    {
-        match r {
-            Ok((state, s)) => Answer::State(state, s),
-            Err(fault) => Answer::Refused(fault),
-        }
-    }
-
-    pub(crate) fn write_set(r: Result<Numbered, BoardFault>) -> Answer
-        ensures answer { listed result ≡ result_listed (λ w. set_listed (set_of w)) r }
-        ensures refusal { refusal_in result ≡ refusal_of r }
-    {
-        match r {
-            Ok(set) => Answer::WriteSet(set),
-            Err(fault) => Answer::Refused(fault),
-        }
-    }
-
-    pub(crate) fn progress(r: Result<Progress, BoardFault>) -> Answer
-        ensures answer { listed result ≡ result_listed progress_listed r }
-        ensures refusal { refusal_in result ≡ refusal_of r }
-    {
-        match r {
-            Ok(progress) => Answer::Applied(progress),
-            Err(fault) => Answer::Refused(fault),
-        }
+        r.map_or_else(Answer::Refused, T::answer)
     }
 }

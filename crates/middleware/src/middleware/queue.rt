@@ -18,17 +18,17 @@ impl<B: Bank> Middleware<B> {
         ensures names { Carries call result }
     {
         match call {
-            Call::Begin(k) => Answer::number(self.begin(k)),
-            Call::Read(t, j) => Answer::number(self.read(t, j)),
-            Call::Write(t, j, v) => Answer::done(self.write(t, j, v)),
-            Call::Commit(t) => Answer::verdict(self.commit(t)),
-            Call::GiveUp(t) => Answer::done(self.give_up(t)),
-            Call::Apply(k, n) => Answer::done(self.apply(k, n)),
-            Call::Drain(k, m) => Answer::number(self.drain(k, m)),
-            Call::Value(k, j) => Answer::number(self.value(k, j)),
-            Call::State(t) => Answer::state(self.state(t)),
-            Call::WriteSet(n) => Answer::write_set(self.write_set(n)),
-            Call::Applied(k) => Answer::progress(self.progress(k)),
+            Call::Begin(k) => Answer::of(self.begin(k)),
+            Call::Read(t, j) => Answer::of(self.read(t, j)),
+            Call::Write(t, j, v) => Answer::of(self.write(t, j, v)),
+            Call::Commit(t) => Answer::of(self.commit(t)),
+            Call::GiveUp(t) => Answer::of(self.give_up(t)),
+            Call::Apply(k, n) => Answer::of(self.apply(k, n)),
+            Call::Drain(k, m) => Answer::of(self.drain(k, m)),
+            Call::Value(k, j) => Answer::of(self.value(k, j)),
+            Call::State(t) => Answer::of(self.state(t)),
+            Call::WriteSet(n) => Answer::of(self.write_set(n)),
+            Call::Applied(k) => Answer::of(self.progress(k)),
         }
     }
 

@@ -1,38 +1,38 @@
-use Rattle.std.proofs.Common.{sym, refl, subst}
-use Rattle.calls.specs.declared.call.Call.{Call}
+use Rattle.std.proofs.Common.{refl}
 use Rattle.calls.specs.declared.call.Call.TheVariants.{Read, Value, State, WriteSet, Applied}
-use Rattle.middleware.specs.Listing.{listed}
-use Rattle.middleware.specs.Serving.{Serves, Carries}
-use Rattle.middleware.proofs.Served.{serves_told, stays_told, carried}
+use Rattle.ledger.specs.Sets.{set_of}
+use Rattle.law.specs.History.Answer.{told}
+use Rattle.refinement.specs.Answers.{state_listed, set_listed, progress_listed}
+use Rattle.middleware.proofs.Served.{answered_as}
 use Rattle.middleware.specs.Meaning.{held}
 use Rattle.middleware.proofs.middleware.Middleware.call.Goals as goal
 
 pub returns-in-Read : goal.returns-in-Read
 returns-in-Read g c =
-    let m = held g.B.Bank.stores c.args.self.now in
-    let a = listed c.number-in-Read.result in
-    record { law = subst (λ (x : Call). Serves x m a m) (sym c.in-Read.is) (serves_told (Read c.in-Read.t c.in-Read.j) m _ a refl c.number-in-Read.ensures.answer c.read.ensures.law); stays = stays_told m a; names = subst (λ (x : Call). Carries x c.number-in-Read.result) (sym c.in-Read.is) (carried (Read c.in-Read.t c.in-Read.j) _ _ c.number-in-Read.ensures.refusal c.read.ensures.names) }
+    let said = c.of-in-Read.ensures in
+    let x = answered_as told c.args.call (Read c.in-Read.t c.in-Read.j) (held g.B.Bank.stores c.args.self.now) _ c.of-in-Read.result c.in-Read.is refl said.answer said.refusal c.read.ensures.law c.read.ensures.names in
+    record { law = x.law; stays = x.stays; names = x.names }
 
 pub returns-in-Value : goal.returns-in-Value
 returns-in-Value g c =
-    let m = held g.B.Bank.stores c.args.self.now in
-    let a = listed c.number-in-Value.result in
-    record { law = subst (λ (x : Call). Serves x m a m) (sym c.in-Value.is) (serves_told (Value c.in-Value.k c.in-Value.j) m _ a refl c.number-in-Value.ensures.answer c.value.ensures.law); stays = stays_told m a; names = subst (λ (x : Call). Carries x c.number-in-Value.result) (sym c.in-Value.is) (carried (Value c.in-Value.k c.in-Value.j) _ _ c.number-in-Value.ensures.refusal c.value.ensures.names) }
+    let said = c.of-in-Value.ensures in
+    let x = answered_as told c.args.call (Value c.in-Value.k c.in-Value.j) (held g.B.Bank.stores c.args.self.now) _ c.of-in-Value.result c.in-Value.is refl said.answer said.refusal c.value.ensures.law c.value.ensures.names in
+    record { law = x.law; stays = x.stays; names = x.names }
 
 pub returns-in-State : goal.returns-in-State
 returns-in-State g c =
-    let m = held g.B.Bank.stores c.args.self.now in
-    let a = listed c.state-in-State.result in
-    record { law = subst (λ (x : Call). Serves x m a m) (sym c.in-State.is) (serves_told (State c.in-State.t) m _ a refl c.state-in-State.ensures.answer c.state.ensures.law); stays = stays_told m a; names = subst (λ (x : Call). Carries x c.state-in-State.result) (sym c.in-State.is) (carried (State c.in-State.t) _ _ c.state-in-State.ensures.refusal c.state.ensures.names) }
+    let said = c.of-in-State.ensures in
+    let x = answered_as state_listed c.args.call (State c.in-State.t) (held g.B.Bank.stores c.args.self.now) _ c.of-in-State.result c.in-State.is refl said.answer said.refusal c.state.ensures.law c.state.ensures.names in
+    record { law = x.law; stays = x.stays; names = x.names }
 
 pub returns-in-WriteSet : goal.returns-in-WriteSet
 returns-in-WriteSet g c =
-    let m = held g.B.Bank.stores c.args.self.now in
-    let a = listed c.write_set-in-WriteSet.result in
-    record { law = subst (λ (x : Call). Serves x m a m) (sym c.in-WriteSet.is) (serves_told (WriteSet c.in-WriteSet.n) m _ a refl c.write_set-in-WriteSet.ensures.answer c.write_set.ensures.law); stays = stays_told m a; names = subst (λ (x : Call). Carries x c.write_set-in-WriteSet.result) (sym c.in-WriteSet.is) (carried (WriteSet c.in-WriteSet.n) _ _ c.write_set-in-WriteSet.ensures.refusal c.write_set.ensures.names) }
+    let said = c.of-in-WriteSet.ensures in
+    let x = answered_as (λ w. set_listed (set_of w)) c.args.call (WriteSet c.in-WriteSet.n) (held g.B.Bank.stores c.args.self.now) _ c.of-in-WriteSet.result c.in-WriteSet.is refl said.answer said.refusal c.write_set.ensures.law c.write_set.ensures.names in
+    record { law = x.law; stays = x.stays; names = x.names }
 
 pub returns-in-Applied : goal.returns-in-Applied
 returns-in-Applied g c =
-    let m = held g.B.Bank.stores c.args.self.now in
-    let a = listed c.progress-in-Applied.result in
-    record { law = subst (λ (x : Call). Serves x m a m) (sym c.in-Applied.is) (serves_told (Applied c.in-Applied.k) m _ a refl c.progress-in-Applied.ensures.answer c.progress.ensures.law); stays = stays_told m a; names = subst (λ (x : Call). Carries x c.progress-in-Applied.result) (sym c.in-Applied.is) (carried (Applied c.in-Applied.k) _ _ c.progress-in-Applied.ensures.refusal c.progress.ensures.names) }
+    let said = c.of-in-Applied.ensures in
+    let x = answered_as progress_listed c.args.call (Applied c.in-Applied.k) (held g.B.Bank.stores c.args.self.now) _ c.of-in-Applied.result c.in-Applied.is refl said.answer said.refusal c.progress.ensures.law c.progress.ensures.names in
+    record { law = x.law; stays = x.stays; names = x.names }
