@@ -29,20 +29,20 @@ pub record Made (lines left : List (List ℕ)) (start : Board) (K : ℕ) (m : Ma
 
 -- the answers so far, which with those of the lines that are left are the whole text
 pub record Followed (lines left : List (List ℕ)) (start : Board) (K number : ℕ) (first m : Machine) (bytes : List ℕ) : Type 0 where
-  pub whole : bytes ++ text (number + 1) left (plain_of m) ≡ text 1 lines (plain_of first)
+  pub whole : bytes ++ text number left (plain_of m) ≡ text 1 lines (plain_of first)
   pub made : Made lines left start K m
 
--- of the lines, these are left; so many were answered
+-- of the lines, these are left; the first of them has this number
 pub record SoFar (lines left : List (List ℕ)) (first : Machine) (buffer : List ℕ) (number at : ℕ) (filled : List ℕ) (m : Machine) : Type 0 where
   pub bytes : List ℕ
-  pub few : number + length left ≤ 1024
+  pub few : number + length left ≤ 1025
   pub room : at + length left * 32 ≤ length buffer
   pub wrote : Wrote buffer 0 bytes filled at
   pub follows : (start : Board) (K : ℕ) → Ran start K [] [] first → Followed lines left start K number first m bytes
 
-pub none_answered : (lines left : List (List ℕ)) (first : Machine) (buffer : List ℕ) → left ≡ lines → length lines ≤ 1024 → length lines * 32 ≤ length buffer → SoFar lines left first buffer 0 0 buffer first
-none_answered lines left first buffer e few room =
-    subst (λ (ls : List (List ℕ)). SoFar lines ls first buffer 0 0 buffer first) (sym e)
+pub none_answered : (lines left : List (List ℕ)) (first : Machine) (buffer : List ℕ) (number : ℕ) → left ≡ lines → number ≡ 1 → length lines ≤ 1024 → length lines * 32 ≤ length buffer → SoFar lines left first buffer number 0 buffer first
+none_answered lines left first buffer number e one few room =
+    subst (λ (x : List (List ℕ) × ℕ). SoFar lines x.0 first buffer x.1 0 buffer first) (λ i. (sym e i, sym one i))
     (record {
       bytes = [];
       few = omega arith;
@@ -72,30 +72,32 @@ module _ (lines : List (List ℕ)) (l : List ℕ) (ls : List (List ℕ)) (start 
         ran = r.1;
       }
 
-  followed_more : (number : ℕ) (first : Machine) (bytes : List ℕ) (p : Printed) → Followed lines (l ∷ ls) start K number first m bytes → Answers (number + 1) l m p next → Followed lines ls start K (number + 1) first next (bytes ++ printed p)
+  followed_more : (number : ℕ) (first : Machine) (bytes : List ℕ) (p : Printed) → Followed lines (l ∷ ls) start K number first m bytes → Answers number l m p next → Followed lines ls start K (number + 1) first next (bytes ++ printed p)
   unfolding text
   followed_more number first bytes p f a = record {
     whole =
-        append_assoc bytes (printed p) (text (number + 1 + 1) ls (plain_of next))
-        ∙ (λ i. bytes ++ (printed (a.printed i) ++ text (number + 1 + 1) ls (a.after i)))
+        append_assoc bytes (printed p) (text (number + 1) ls (plain_of next))
+        ∙ (λ i. bytes ++ (printed (a.printed i) ++ text (number + 1) ls (a.after i)))
         ∙ f.whole;
-    made = made_more (number + 1) f.made a.after a.sound;
+    made = made_more number f.made a.after a.sound;
   }
 
-pub one_more_answered : {lines left ls : List (List ℕ)} {l : List ℕ} {first : Machine} {buffer : List ℕ} {number at : ℕ} {filled : List ℕ} {m : Machine} {p q : Printed} {next : Machine} {filled' : List ℕ} {end : ℕ} →
-    left ≡ l ∷ ls → SoFar lines left first buffer number at filled m → (Sound m → Answers (number + 1) l m q next) → p ≡ q → Wrote filled at (printed p) filled' end → end ≤ at + 32 →
-    SoFar lines ls first buffer (number + 1) end filled' next
-one_more_answered {lines} {left} {ls} {l} {first} {buffer} {number} {at} {filled} {m} {p} {q} {next} {filled'} {end} e far answers said wrote most =
-    let here : SoFar lines (l ∷ ls) first buffer number at filled m = subst (λ (k : List (List ℕ)). SoFar lines k first buffer number at filled m) e far in
-    record {
-      bytes = here.bytes ++ printed p;
-      few = omega (arith, here.few);
-      room = omega (arith, here.room);
-      wrote = one_write_after_another (omega (arith, here.room, here.wrote.ends)) here.wrote wrote;
+pub one_more_answered : {lines left ls : List (List ℕ)} {l : List ℕ} {first : Machine} {buffer : List ℕ} {number at : ℕ} {filled : List ℕ} {m : Machine} {here after : ℕ} {p q : Printed} {next : Machine} {filled' : List ℕ} {end : ℕ} →
+    left ≡ l ∷ ls → SoFar lines left first buffer number at filled m → here ≡ number → after ≡ number + 1 →
+    (Sound m → Answers here l m q next) → p ≡ q → Wrote filled at (printed p) filled' end → end ≤ at + 32 →
+    SoFar lines ls first buffer after end filled' next
+one_more_answered {lines} {left} {ls} {l} {first} {buffer} {number} {at} {filled} {m} {here} {after} {p} {q} {next} {filled'} {end} e far is then answers said wrote most =
+    let so : SoFar lines (l ∷ ls) first buffer number at filled m = subst (λ (k : List (List ℕ)). SoFar lines k first buffer number at filled m) e far in
+    subst (λ (n : ℕ). SoFar lines ls first buffer n end filled' next) (sym then)
+    (record {
+      bytes = so.bytes ++ printed p;
+      few = omega (arith, so.few);
+      room = omega (arith, so.room);
+      wrote = one_write_after_another (omega (arith, so.room, so.wrote.ends)) so.wrote wrote;
       follows = λ start K new.
-          let f = here.follows start K new in
-          followed_more lines l ls start K m next number first here.bytes p f (subst (λ (x : Printed). Answers (number + 1) l m x next) (sym said) (answers f.made.ran.sound));
-    }
+          let f = so.follows start K new in
+          followed_more lines l ls start K m next number first so.bytes p f (subst (λ (x : Printed × ℕ). Answers x.1 l m x.0 next) (λ i. (sym said i, is i)) (answers f.made.ran.sound));
+    })
 
 -- ---- at the end
 

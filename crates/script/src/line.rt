@@ -1,5 +1,5 @@
 // One line of a script, answered by the board.
-ghost use Rattle.std.specs.Prelude.{◌≡◌, Ok, Err, MatchResult};
+ghost use Rattle.std.specs.Prelude.{◌≡◌};
 ghost use Rattle.middleware.specs.Meaning.{held};
 ghost use Rattle.refinement.specs.Sound.{Sound};
 ghost use Rattle.script.specs.Lines.{spoken, said, Answers, Refuses};
@@ -26,16 +26,6 @@ fn spoken(answer: Answer) -> Result<Printed, BoardFault>
     }
 }
 
-// What was answered, with the line beside a refusal.
-fn at_line<T>(line: u32, r: Result<T, BoardFault>) -> Result<T, (u32, BoardFault)>
-    ensures answer { MatchResult result (λ x. r ≡ Ok x) (λ e. (e.0 ≡ line) × (r ≡ Err e.1)) }
-{
-    match r {
-        Ok(x) => Ok(x),
-        Err(fault) => Err((line, fault)),
-    }
-}
-
 /// Answers one line: what is printed, or the refusal with its line.
 pub fn answer_line<B: Bank>(
     board: &mut Middleware<B>,
@@ -46,5 +36,5 @@ pub fn answer_line<B: Bank>(
     ensures names { Refuses line bytes.now result }
 {
     let call = read_line(bytes).ok_or(ScriptFault::NotUnderstood { line })?;
-    Ok(at_line(line, spoken(board.call(call)))?)
+    spoken(board.call(call)).map_err(|fault| ScriptFault::Board { line, fault })
 }

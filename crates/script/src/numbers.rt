@@ -1,6 +1,5 @@
 // Refusals by their numbers, as they are printed.
 ghost use Rattle.std.specs.Prelude.{◌≡◌};
-ghost use Rattle.stores.specs.Faults.{number_of};
 ghost use Rattle.banks.specs.Faults.{listed as bank-listed};
 ghost use Rattle.machine.specs.Reasons.{with_number, listed as reason-listed};
 ghost use Rattle.record_format.specs.Faults.{refusal_of};
@@ -11,28 +10,13 @@ use answers::Printed;
 use banks::BankFault;
 use machine::Reason;
 use record_format::RecordFault;
-use stores::StoreFault;
-
-fn store_number(fault: StoreFault) -> u32
-    ensures answer { result ≡ number_of fault }
-{
-    match fault {
-        StoreFault::NoObject => 3,
-        StoreFault::NoPlace => 6,
-        StoreFault::NinthObject => 30,
-        StoreFault::Overtaken => 34,
-        StoreFault::Full => 35,
-        StoreFault::PlaceOpen => 36,
-        StoreFault::PlaceClosed => 37,
-    }
-}
 
 fn bank_number(fault: BankFault) -> u32
     ensures answer { result ≡ (bank-listed fault).0 }
 {
     match fault {
         BankFault::NoReplica(_) => 1,
-        BankFault::At(_, fault) => store_number(fault),
+        BankFault::At(_, fault) => fault.number(),
     }
 }
 

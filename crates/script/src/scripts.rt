@@ -4,7 +4,6 @@ ghost use Rattle.lines.specs.Scripts.{lines_of};
 ghost use Rattle.answers.specs.Buffers.{Wrote};
 ghost use Rattle.answers.specs.Printing.{printed};
 ghost use Rattle.middleware.specs.Meaning.{held};
-ghost use Rattle.script.specs.Lines.{said};
 ghost use Rattle.script.specs.Promise.{unfit, checked, ScriptPromise};
 ghost use Rattle.script.specs.Serving.{ServesLines};
 
@@ -17,26 +16,13 @@ use lines::{Lines, SCRIPT_BYTES, SCRIPT_LINES, line_count};
 use middleware::Middleware;
 use std::alloc::Global;
 
-// What is printed of a line's answer.
-fn said(r: Result<Printed, ScriptFault>) -> Printed
-    ensures answer { result ≡ said r }
-{
-    match r {
-        Ok(answer) => answer,
-        Err(fault) => fault.printed(),
-    }
-}
-
 // Prints an answer at a place of the buffer that has room for any, and tells where it ends.
 fn put(answer: Printed, buffer: &mut [u8], at: usize) -> usize
     requires { at + 32 ≤ length buffer.old }
     ensures bytes { Wrote buffer.old at (printed answer) buffer.new result }
     ensures most { result ≤ at + 32 }
 {
-    match answer.print(buffer, at) {
-        Some(end) => end,
-        None => at,
-    }
+    answer.print(buffer, at).unwrap_or(at)
 }
 
 // Answers the lines in order, and tells how many bytes the answers take.
@@ -46,10 +32,8 @@ fn serve_lines<B: Bank>(board: &mut Middleware<B>, script: &[u8], buffer: &mut [
     ensures law { ServesLines (lines_of script.now) (held B.Bank.stores board.old) buffer.old result buffer.new (held B.Bank.stores board.new) }
 {
     let mut at = 0;
-    let mut number = 0;
-    for line in Lines::new(script) {
-        number += 1;
-        let answer = said(answer_line(board, number, line));
+    for (line, number) in Lines::new(script).zip(1..) {
+        let answer = answer_line(board, number, line).unwrap_or_else(ScriptFault::printed);
         at = put(answer, buffer, at);
     }
     at
@@ -85,10 +69,7 @@ pub fn run_script<B: Bank>(
     if let Err(fault) = check(script, buffer.len()) {
         return Err(Unplayed::Unfit(fault, bank));
     }
-    let mut board = match Middleware::new(heap, bank) {
-        Ok(board) => board,
-        Err(bank) => return Err(Unplayed::NoMemory(bank)),
-    };
+    let mut board = Middleware::new(heap, bank).map_err(Unplayed::NoMemory)?;
     if let Err(fault) = board.open() {
         return Err(Unplayed::NotOpened(fault, board.into_bank()));
     }

@@ -6,4 +6,4 @@ use Rattle.script.proofs.scripts.serve_lines.Given as goal
 abbrev pub invariant-loop-line : goal.invariant-loop-line
 invariant-loop-line g l =
     (goal.iterator-loop-line g).can_next l.line-iterator × (goal.iterator-loop-line g).is_finite l.line-iterator
-    × SoFar (lines_of l.initial.script) (lines_left l.line-iterator) (held g.B.Bank.stores l.initial.board) l.initial.buffer l.number l.at l.buffer (held g.B.Bank.stores l.board)
+    × SoFar (lines_of l.initial.script) (lines_left l.line-iterator.a) (held g.B.Bank.stores l.initial.board) l.initial.buffer l.line-iterator.b.start l.at l.buffer (held g.B.Bank.stores l.board)
