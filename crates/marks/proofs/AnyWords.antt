@@ -1,14 +1,19 @@
 -- Marks in a list of words, however many. Assumes nothing.
-use Rattle.std.proofs.Common.{◌≡◌, ℕ, ◌+◌, ◌-◌, ◌*◌, ◌/◌, ◌%◌, ◌^◌, ◌<◌, ◌≤◌, Bool, true, false, cond, ◌&&◌, eqb, ltb, List, length, get_or, set, Some, sym, refl, ap, ◌∙◌, ⊎_elim, arith}
-use lib.Bits.{bit_and, bit_or}
-use lib.Count.{ones, count_trailing_zeros}
-use Rattle.std.proofs.lemmas.Nat.{shr_le, and_le_l}
+use Rattle.std.proofs.Common.{◌≡◌, ℕ, ◌+◌, ◌-◌, ◌*◌, ◌/◌, ◌%◌, ◌^◌, ◌<◌, ◌≤◌, zero, suc, Bool, true, false, cond, ◌&&◌, ◌||◌, eqb, ltb, List, length, get_or, take, set, Some, sym, refl, ap, ◌∙◌, subst, ⊎_elim, arith, take_all}
+use Rattle.std.specs.List.{sum_by, list_any, zip}
+use lib.Bits.{bit_or}
+use lib.Count.{count_trailing_zeros}
+use Rattle.std.proofs.lemmas.Nat.{shr_le}
 use Rattle.std.proofs.lemmas.List.{get_or-set_same, get_or-set_other, get_or_past}
+use Rattle.std.proofs.lemmas.List.Folds.{list_any_more}
+use Rattle.std.proofs.lemmas.Slice.Zip.{get_or-zip, length-zip}
+use Rattle.std.proofs.Math.Bool.{or_comm}
+use Rattle.std.proofs.lemmas.List.Sums.{sum_by_more}
 use Rattle.std.proofs.lemmas.Bool.{cases_eq, cases_lt, lt-ltb, ne_eqb, both_ways}
 use Rattle.std.proofs.lemmas.Bool.Decides.{nat_tests}
-use Rattle.marks.specs.Marked.{bit, marked_in, with_mark, either, both, count_below, any_below, lowest_from, Lowest}
-use Rattle.marks.proofs.Bits.{bit-none, bit_shifted, bit_past, bit-or, bit-and, ones_are_bits, trailing_lowest}
-use Rattle.marks.proofs.Scans.{count_splits, count_same, any_at, lowest_passes, lowest_stops, walk_finds_the_lowest}
+use Rattle.marks.specs.Marked.{bit, marked_in, with_mark, either, both, count_below, any_below, lowest_from}
+use Rattle.marks.proofs.Bits.{bit-none, bit_shifted, bit_past, bit-or, trailing_lowest}
+use Rattle.marks.proofs.Scans.{count_splits, count_same, any_splits, any_same, lowest_passes, lowest_stops}
 
 module _ (ws : List ℕ) where
   -- the mark of an object in word q, at bit r
@@ -42,14 +47,23 @@ module _ (ws : List ℕ) where
 
   -- ---- the count
 
-  pub count_of_one_word_more : (q : ℕ) → get_or ws q 0 < 2 ^ 64 → count_below (marked_in ws) (64 * q) + ones (get_or ws q 0) ≡ count_below (marked_in ws) (64 * (q + 1))
-  count_of_one_word_more q h =
+  count_of_one_word_more : (q : ℕ) → count_below (marked_in ws) (64 * q) + count_below (bit (get_or ws q 0)) 64 ≡ count_below (marked_in ws) (64 * (q + 1))
+  count_of_one_word_more q =
       let f = marked_in ws in
-      let w = get_or ws q 0 in
       let e : 64 * (q + 1) ≡ 64 * q + 64 = omega arith in
-      let word : ones w ≡ count_below (λ i. f (64 * q + i)) 64 =
-      ones_are_bits w 64 h ∙ sym (count_same (λ i. f (64 * q + i)) (bit w) 64 (λ i l. at_bit q i (64 * q + i) (omega arith) (omega arith))) in
+      let word = count_same (λ i. f (64 * q + i)) (bit (get_or ws q 0)) 64 (λ i l. at_bit q i (64 * q + i) (omega arith) (omega arith)) in
       omega (arith, word, count_splits f (64 * q) 64, ap (count_below f) e)
+
+  count_of_words : (n : ℕ) → n ≤ length ws → sum_by (λ w. count_below (bit w) 64) (take n ws) ≡ count_below (marked_in ws) (64 * n)
+  unfolding count_below
+  count_of_words zero h = refl
+  count_of_words (suc n) h =
+      let one_more : n + 1 ≡ suc n = omega arith in
+      subst (λ k. sum_by (λ w. count_below (bit w) 64) (take k ws) ≡ count_below (marked_in ws) (64 * k)) one_more
+      (sum_by_more (λ w. count_below (bit w) 64) ws n 0 (omega arith) ∙ ap (λ k. k + count_below (bit (get_or ws n 0)) 64) (count_of_words n (omega arith)) ∙ count_of_one_word_more n)
+
+  pub count_by_words : sum_by (λ w. count_below (bit w) 64) ws ≡ count_below (marked_in ws) (64 * length ws)
+  count_by_words = ap (sum_by (λ w. count_below (bit w) 64)) (sym (take_all (length ws) ws (omega arith))) ∙ count_of_words (length ws) (omega arith)
 
   -- ---- the walk
 
@@ -83,28 +97,34 @@ module _ (ws : List ℕ) where
       ∙ lowest_passes f j t n (λ i p l. at_bit (j / 64) (s + (i - j)) i (omega arith) (omega arith) ∙ sym (bit_shifted w s (i - j)) ∙ low.below (i - j) (omega arith))
       ∙ lowest_stops f (j + t) n (omega arith) (at_bit (j / 64) (s + t) (j + t) (omega arith) (omega arith) ∙ here)
 
-  pub walk_over_words_finds_the_lowest : (j : ℕ) → Lowest (marked_in ws) j (lowest_from (marked_in ws) j (64 * length ws - j))
-  walk_over_words_finds_the_lowest j = walk_finds_the_lowest (marked_in ws) j (64 * length ws - j) (λ i p. nothing_past_the_words i (omega arith))
-
 -- ---- two sets
 
 pub joined_word_by_word : (a b c : List ℕ) → ((q : ℕ) → get_or c q 0 ≡ bit_or (get_or a q 0) (get_or b q 0)) → marked_in c ≡ either (marked_in a) (marked_in b)
 unfolding marked_in
 joined_word_by_word a b c e = λ i k. (ap (λ w. bit w (k % 64)) (e (k / 64)) ∙ bit-or (get_or a (k / 64) 0) (get_or b (k / 64) 0) (k % 64)) i
 
-module _ (a b : List ℕ) where
-  both_at : (q r k : ℕ) → k / 64 ≡ q → k % 64 ≡ r → both (marked_in a) (marked_in b) k ≡ bit (bit_and (get_or a q 0) (get_or b q 0)) r
-  both_at q r k e f = (λ i. at_bit a q r k e f i && at_bit b q r k e f i) ∙ sym (bit-and (get_or a q 0) (get_or b q 0) r)
+module _ (a b : List ℕ) (same : length b ≡ length a) where
+  -- two words mark an object both
+  abbrev share : ℕ × ℕ → Bool
+  share p = any_below (both (bit p.0) (bit p.1)) 64
 
-  pub meet_in_this_word : (q : ℕ) → q < length a → get_or a q 0 < 2 ^ 64 → 0 < bit_and (get_or a q 0) (get_or b q 0) → any_below (both (marked_in a) (marked_in b)) (64 * length a) ≡ true
-  meet_in_this_word q h fits some =
-      let x = bit_and (get_or a q 0) (get_or b q 0) in
-      let low = trailing_lowest 64 x some (omega (arith, and_le_l (get_or a q 0) (get_or b q 0))) in
-      let t = count_trailing_zeros 64 x in
-      let within : t < 64 = low.within in
-      any_at (both (marked_in a) (marked_in b)) (64 * q + t) (64 * length a) (omega arith) (both_at q t (64 * q + t) (omega arith) (omega arith) ∙ low.is_set)
+  pair_at : (q : ℕ) → q < length a → get_or (zip a b) q (0, 0) ≡ (get_or a q 0, get_or b q 0)
+  pair_at q h = get_or-zip a b q (0, 0) h (omega arith)
 
-  pub no_meeting_in_one_word_more : (q : ℕ) → bit_and (get_or a q 0) (get_or b q 0) ≡ 0
-      → ((k : ℕ) → k < 64 * q → both (marked_in a) (marked_in b) k ≡ false) → (k : ℕ) → k < 64 * (q + 1) → both (marked_in a) (marked_in b) k ≡ false
-  no_meeting_in_one_word_more q none before k h =
-      ⊎_elim (before k) (λ l. both_at q (k % 64) k (omega arith) refl ∙ ap (λ w. bit w (k % 64)) none ∙ bit-none (k % 64)) (cases_lt k (64 * q))
+  meet_in_one_word_more : (q : ℕ) → q < length a → (any_below (both (marked_in a) (marked_in b)) (64 * q) || share (get_or (zip a b) q (0, 0))) ≡ any_below (both (marked_in a) (marked_in b)) (64 * (q + 1))
+  meet_in_one_word_more q h =
+      let f = both (marked_in a) (marked_in b) in
+      let e : 64 * q + 64 ≡ 64 * (q + 1) = omega arith in
+      let word = any_same (λ i. f (64 * q + i)) (both (bit (get_or a q 0)) (bit (get_or b q 0))) 64 (λ k l i. at_bit a q k (64 * q + k) (omega arith) (omega arith) i && at_bit b q k (64 * q + k) (omega arith) (omega arith) i) in
+      or_comm (any_below f (64 * q)) (share (get_or (zip a b) q (0, 0))) ∙ ap (λ x. x || any_below f (64 * q)) (ap share (pair_at q h) ∙ sym word) ∙ sym (any_splits f (64 * q) 64) ∙ ap (any_below f) e
+
+  meet_in_words : (n : ℕ) → n ≤ length a → list_any share (take n (zip a b)) ≡ any_below (both (marked_in a) (marked_in b)) (64 * n)
+  unfolding any_below
+  meet_in_words zero h = refl
+  meet_in_words (suc n) h =
+      let one_more : n + 1 ≡ suc n = omega arith in
+      subst (λ k. list_any share (take k (zip a b)) ≡ any_below (both (marked_in a) (marked_in b)) (64 * k)) one_more
+      (list_any_more share (zip a b) n (0, 0) (omega (arith, length-zip a b)) ∙ ap (λ x. x || share (get_or (zip a b) n (0, 0))) (meet_in_words n (omega arith)) ∙ meet_in_one_word_more n (omega arith))
+
+  pub meet_by_words : list_any (λ p. any_below (both (bit p.0) (bit p.1)) 64) (zip a b) ≡ any_below (both (marked_in a) (marked_in b)) (64 * length a)
+  meet_by_words = ap (list_any share) (sym (take_all (length a) (zip a b) (omega (arith, length-zip a b)))) ∙ meet_in_words (length a) (omega arith)

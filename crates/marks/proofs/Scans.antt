@@ -1,5 +1,6 @@
 -- Counts, searches and walks over the objects that a test marks. Assumes nothing.
-use Rattle.std.proofs.Common.{◌≡◌, ℕ, zero, suc, ◌+◌, ◌<◌, ◌≤◌, Bool, true, false, cond, eqb, Some, None, Option, sym, refl, ap, ◌∙◌, ⊎_elim, arith}
+use Rattle.std.proofs.Common.{◌≡◌, ℕ, zero, suc, ◌+◌, ◌<◌, ◌≤◌, Bool, true, false, cond, ◌||◌, eqb, Some, None, Option, sym, refl, ap, ◌∙◌, ⊎_elim, arith}
+use Rattle.std.proofs.Math.Bool.{or_assoc}
 use Rattle.std.proofs.lemmas.Bool.{cases_eq, eq-eqb, ne_eqb, or_left, or_right, or_from}
 use Rattle.marks.specs.Marked.{count_below, any_below, lowest_from, Lowest}
 
@@ -54,6 +55,18 @@ pub any_nowhere : (f : ℕ → Bool) (n : ℕ) → ((k : ℕ) → k < n → f k 
 unfolding any_below
 any_nowhere f zero h = refl
 any_nowhere f (suc n) h = or_from (f n) (any_below f n) (h n (omega arith)) (any_nowhere f n (λ k l. h k (omega arith)))
+
+pub any_splits : (f : ℕ → Bool) (a n : ℕ) → any_below f (a + n) ≡ (any_below (λ i. f (a + i)) n || any_below f a)
+unfolding any_below
+any_splits f a zero = let e : a + 0 ≡ a = omega arith in ap (any_below f) e
+any_splits f a (suc n) =
+    let e : a + suc n ≡ suc (a + n) = omega arith in
+    ap (any_below f) e ∙ ap (λ x. f (a + n) || x) (any_splits f a n) ∙ sym (or_assoc (f (a + n)) (any_below (λ i. f (a + i)) n) (any_below f a))
+
+pub any_same : (f g : ℕ → Bool) (n : ℕ) → ((i : ℕ) → i < n → f i ≡ g i) → any_below f n ≡ any_below g n
+unfolding any_below
+any_same f g zero h = refl
+any_same f g (suc n) h = λ i. h n (omega arith) i || any_same f g n (λ k l. h k (omega arith)) i
 
 -- ---- lowest-from
 

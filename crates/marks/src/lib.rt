@@ -2,6 +2,7 @@
 #![tactic(auto)]
 
 pub mod marks;
-mod words;
+pub mod objects;
 
 pub use marks::Marks;
+pub use objects::Objects;
