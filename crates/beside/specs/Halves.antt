@@ -1,5 +1,5 @@
 -- A call at two lists of stores put together is a call at one of them. Assumes nothing.
-use Rattle.std.specs.Prelude.{◌≡◌, ℕ, ◌-◌, ◌<◌, ◌≤◌, Bool, true, false, cond, ltb, List, ◌++◌, length, get_or, Ok, Err, Result, nat_lt, slice_index_or, slice_set}
+use Rattle.std.specs.Prelude.{◌≡◌, ℕ, ◌-◌, ◌<◌, ◌≤◌, Bool, true, false, cond, ltb, List, ◌++◌, length, get_or, Some, None, Ok, Err, Option, Result, nat_lt, slice_index_or, slice_set}
 use Rattle.std.proofs.Math.Path.{refl, sym, ap}
 use Rattle.std.proofs.Common.{subst, ◌∙◌, arith}
 use Rattle.std.proofs.Math.Logic.{⊎_elim}
@@ -9,17 +9,16 @@ use Rattle.std.proofs.lemmas.Bool.{lt-ltb, le-ltb, ltb-true, cases_lt}
 use Rattle.stores.specs.declared.fault.StoreFault.{StoreFault}
 use Rattle.stores.specs.Model.{StoreModel, Lawful}
 use Rattle.banks.specs.declared.fault.BankFault.{BankFault}
-use Rattle.beside.specs.declared.Side.TheVariants.{Left, Right}
 use Rattle.banks.specs.Model.{no_store, store_at, lifted, asked, changed}
-use Rattle.beside.specs.Sides.{side_of, renumbered}
+use Rattle.beside.specs.Sides.{right_number, renumbered}
 
 -- ---- on the left
 
-left_is : (k n : ℕ) (b : Bool) → nat_lt k n ≡ b → Left ≡ cond b Left (Right (k - n)) → k < n
+left_is : (k n : ℕ) (b : Bool) → nat_lt k n ≡ b → ◌≡◌ {A = Option ℕ} None (cond b None (Some (k - n))) → k < n
 left_is k n true t e = ltb-true k n t
 left_is k n false t e = let z : ◌≡◌ {A = ℕ} 0 1 = cc in absurd (omega arith)
 
-module _ (ls rs : List StoreModel) (k : ℕ) (s : Left ≡ side_of (length ls) k) where
+module _ (ls rs : List StoreModel) (k : ℕ) (s : None ≡ right_number (length ls) k) where
   pub left_answer : {A : Type 0} {r : Result A BankFault} (f : StoreModel → Result A StoreFault) → r ≡ asked ls k f → r ≡ asked (ls ++ rs) k f
   unfolding asked
   left_answer f e =
@@ -36,7 +35,7 @@ module _ (ls rs : List StoreModel) (k : ℕ) (s : Left ≡ side_of (length ls) k
 
 -- ---- on the right
 
-right_is : (k n i : ℕ) (b : Bool) → nat_lt k n ≡ b → Right i ≡ cond b Left (Right (k - n)) → (n ≤ k) × (i ≡ k - n)
+right_is : (k n i : ℕ) (b : Bool) → nat_lt k n ≡ b → Some i ≡ cond b None (Some (k - n)) → (n ≤ k) × (i ≡ k - n)
 right_is k n i true t e = let z : ◌≡◌ {A = ℕ} 0 1 = cc in absurd (omega arith)
 right_is k n i false t e = (⊎_elim (λ lt. let z : true ≡ false = sym (lt-ltb k n lt) ∙ t in let z' : ◌≡◌ {A = ℕ} 0 1 = cc in absurd (omega arith)) (λ ge. ge) (cases_lt k n), cc)
 
@@ -44,7 +43,7 @@ lifted_under : {A : Type 0} (k i : ℕ) (r : Result A StoreFault) → renumbered
 lifted_under k i (Ok x) = refl
 lifted_under k i (Err e) = refl
 
-module _ (ls rs : List StoreModel) (k i : ℕ) (s : Right i ≡ side_of (length ls) k) where
+module _ (ls rs : List StoreModel) (k i : ℕ) (s : Some i ≡ right_number (length ls) k) where
   asked_right : {A : Type 0} (f : StoreModel → Result A StoreFault) → renumbered k (asked rs i f) ≡ asked (ls ++ rs) k f
   unfolding asked
   asked_right f =
@@ -72,7 +71,10 @@ module _ (ls rs : List StoreModel) (k i : ℕ) (s : Right i ≡ side_of (length 
       let same : get_or (ls ++ rs) k no_store ≡ get_or rs i no_store = get_or-append_right ls rs (length ls) k no_store refl at.0 ∙ ap (λ n. get_or rs n no_store) (sym at.1) in
       ap (λ l. ls ++ l) e ∙ ap (λ m. ls ++ slice_set rs i (g m)) (sym same) ∙ ap (λ n. ls ++ slice_set rs n (g (slice_index_or (ls ++ rs) k no_store))) at.1 ∙ sym (set-append_right ls rs (length ls) k _ refl at.0)
 
--- ---- what every store keeps
+-- ---- what every bank keeps
+
+pub both_some : (ls rs : List StoreModel) → 0 < length ls → 0 < length (ls ++ rs)
+both_some ls rs h = omega (arith, length-append ls rs)
 
 pub both_lawful : (ls rs : List StoreModel) → ((k : ℕ) → k < length ls → Lawful (store_at ls k)) → ((k : ℕ) → k < length rs → Lawful (store_at rs k))
     → (k : ℕ) → k < length (ls ++ rs) → Lawful (store_at (ls ++ rs) k)
