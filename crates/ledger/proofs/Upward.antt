@@ -1,9 +1,13 @@
--- The steps of loops that go up over the numbers from 1 on: how many pass, whether without holes, and the lowest that does.
-use Rattle.std.proofs.Common.{◌≡◌, ℕ, zero, suc, ◌+◌, ◌-◌, ◌<◌, ◌≤◌, Bool, true, false, cond, ◌&&◌, eqb, ltb, leb, List, length, get_or, drop, IfSome, Some, None, sym, refl, ap, ◌∙◌, inl, inr, add-one, arith}
+-- What is found over the numbers from 1 on: how many pass, whether without holes, and the lowest that does.
+use Rattle.std.proofs.Common.{◌≡◌, ℕ, zero, suc, ◌+◌, ◌-◌, ◌<◌, ◌≤◌, Bool, true, false, not, cond, ◌&&◌, eqb, ltb, leb, List, map, length, get_or, take, drop, Option, IfSome, Some, None, sym, refl, ap, ◌∙◌, inl, inr, add-one, arith}
 use mathlib.Core.Bool.{beq}
-use Rattle.std.proofs.lemmas.Bool.{cases_eq, lt-ltb, le-ltb, le-leb, lt-leb, eq-eqb, ne_eqb, and_from, and_left, and_right, cond-true, cond-false}
-use Rattle.std.proofs.lemmas.List.{at_drop_more, at_drop_all}
-use Rattle.ledger.specs.Words.{up_to, count, exactly, whole, lowest, or_else, some_number, tally}
+use Rattle.std.specs.List.{position, position_or_len}
+use Rattle.std.specs.Option.{option_map}
+use Rattle.std.proofs.lemmas.Bool.{cases_eq, cases_lt, lt-ltb, le-ltb, le-leb, lt-leb, eq-eqb, ne_eqb, and_from, and_left, and_right, cond-true, cond-false}
+use Rattle.std.proofs.lemmas.List.{drop-map, take-map, get_or-drop, get_or-take, get_or_past, length-map, length-drop, length-take}
+use Rattle.std.proofs.lemmas.List.Recursion.{is_position_or_len}
+use Rattle.std.proofs.lemmas.List.Sums.{fails_before_first, passes_at_first, prefix_len-le-length}
+use Rattle.ledger.specs.Words.{up_to, count, exactly, whole, lowest, or_else, some_number}
 
 -- ---- how many
 
@@ -71,14 +75,6 @@ whole_not f i e =
 
 -- ---- the lowest
 
-pub lowest_none : (f : ℕ → Bool) → lowest f 0 ≡ 0
-unfolding lowest
-lowest_none f = refl
-
-pub lowest_more : (f : ℕ → Bool) (i : ℕ) → f (i + 1) ≡ false → lowest f i ≡ 0 → lowest f (i + 1) ≡ 0
-unfolding lowest
-lowest_more f i e h = rw add-one (let e' : f (suc i) ≡ false = rw add-one at e in rw (h, e'))
-
 lowest_at : (f : ℕ → Bool) (i : ℕ) → f (i + 1) ≡ true → lowest f i ≡ 0 → lowest f (i + 1) ≡ i + 1
 unfolding lowest
 lowest_at f i e h = rw add-one (let e' : f (suc i) ≡ true = rw add-one at e in rw (h, e'))
@@ -95,47 +91,13 @@ lowest_found f i n l e h =
     let z : n - (i + 1) + (i + 1) ≡ n = omega arith in
     rw z at s ∙ sym (add-one i)
 
--- where none of 1 to i passes, none of 1 to n does that are fewer
-lowest_before : (f : ℕ → Bool) (i n : ℕ) → n ≤ i → lowest f i ≡ 0 → lowest f n ≡ 0
-lowest_before f i n l h = by (lowest f n) refl
-  where
-    by : (r : ℕ) → lowest f n ≡ r → r ≡ 0
-    by zero e = refl
-    by (suc r) e =
-        let z : i - n + n ≡ i = omega arith in
-        let s = sym (lowest_stays f n r (i - n) e) ∙ ap (lowest f) z ∙ h in
-        absurd (omega arith)
-
-pub lowest_nowhere : (f : ℕ → Bool) (n : ℕ) → ((m : ℕ) → m ≤ n → f m ≡ false) → lowest f n ≡ 0
+lowest_nowhere : (f : ℕ → Bool) (n : ℕ) → ((m : ℕ) → 0 < m → m ≤ n → f m ≡ false) → lowest f n ≡ 0
 unfolding lowest
 lowest_nowhere f zero none = refl
 lowest_nowhere f (suc n) none =
-    let h = lowest_nowhere f n (λ m l. none m (omega arith)) in
-    let e = none (suc n) (omega arith) in
+    let h = lowest_nowhere f n (λ m l b. none m l (omega arith)) in
+    let e = none (suc n) (omega arith) (omega arith) in
     rw (h, e)
-
--- where none of the d numbers past i passes, the lowest is found up to i
-pub lowest_past : (f : ℕ → Bool) (i d : ℕ) → ((m : ℕ) → i < m → m ≤ d + i → f m ≡ false) → lowest f (d + i) ≡ lowest f i
-unfolding lowest
-lowest_past f i zero none = let e : zero + i ≡ i = omega arith in ap (lowest f) e
-lowest_past f i (suc d) none =
-    let e : suc d + i ≡ suc (d + i) = omega arith in
-    let no = none (suc (d + i)) (omega arith) (omega arith) in
-    ap (lowest f) e ∙ ap (λ b. or_else (lowest f (d + i)) (cond b (suc (d + i)) 0)) no ∙ or_zero (lowest f (d + i)) ∙ lowest_past f i d (λ m l h. none m l (omega arith))
-  where
-    or_zero : (n : ℕ) → or_else n 0 ≡ n
-    or_zero zero = refl
-    or_zero (suc n) = refl
-
--- the same, as a loop that returns an `Option` has them
-pub found_some : (f : ℕ → Bool) (i n : ℕ) → i < n → f (i + 1) ≡ true → lowest f i ≡ 0 → some_number (lowest f n) ≡ Some (i + 1)
-found_some f i n l e h = ap some_number (lowest_found f i n l e h) ∙ some_suc i
-  where
-    some_suc : (i : ℕ) → some_number (i + 1) ≡ Some (i + 1)
-    some_suc i = rw add-one
-
-pub found_none : (f : ℕ → Bool) (i n : ℕ) → n ≤ i → lowest f i ≡ 0 → some_number (lowest f n) ≡ None
-found_none f i n l h = ap some_number (lowest_before f i n l h)
 
 lowest_le : (f : ℕ → Bool) (n : ℕ) → lowest f n ≤ n
 unfolding lowest
@@ -147,19 +109,87 @@ lowest_le f (suc n) = either (lowest f n) (f (suc n)) n (lowest_le f n)
     either zero false n h = omega arith
     either (suc r) b n h = omega arith
 
--- ---- how many of a list, by those that are left
+-- ---- the first of a list that passes, and the lowest number that does
 
-pub tally_yes : {X : Type 0} (f : X → Bool) (xs : List X) (i : ℕ) (d : X) → i < length xs → f (get_or xs i d) ≡ true → tally f (drop i xs) ≡ suc (tally f (drop (i + 1) xs))
-unfolding tally
-tally_yes f xs i d h e = at_drop_more (tally f) xs i d h ∙ cond-true (f (get_or xs i d)) _ _ e
+-- number s + k + 1 passes where element k does, and no other number passes
+lowest_first : {X : Type 0} (f : ℕ → Bool) (p : X → Bool) (ys : List X) (d : X) (s n : ℕ) → ((m : ℕ) → 0 < m → m ≤ s → f m ≡ false) → ((k : ℕ) → k < length ys → (s + k < n) × (f (s + k + 1) ≡ p (get_or ys k d))) → ((m : ℕ) → s + length ys < m → m ≤ n → f m ≡ false) → some_number (lowest f n) ≡ option_map (λ i. s + i + 1) (position p ys)
+lowest_first f p ys d s n low at high =
+    let r = position_or_len p ys in
+    elim (cases_lt r (length ys)) [
+      | inl l ↦
+          some_lowest (lowest f n) (s + r) (lowest_found f (s + r) n (at r l).0 ((at r l).1 ∙ passes_at_first p ys d l) (lowest_nowhere f (s + r) (below r (λ k h. h))))
+          ∙ sym (ap (option_map (λ i. s + i + 1)) (cond-true _ _ _ (lt-ltb r (length ys) l)))
+      | inr l ↦
+          ap some_number (lowest_nowhere f n (nowhere (below (length ys) (λ k h. omega arith))))
+          ∙ sym (ap (option_map (λ i. s + i + 1)) (cond-false _ _ _ (le-ltb r (length ys) l)))
+    ]
+  where
+    some_lowest : (m i : ℕ) → m ≡ i + 1 → some_number m ≡ Some (i + 1)
+    some_lowest m i e = ap some_number (e ∙ add-one i) ∙ ap Some (sym (add-one i))
 
-pub tally_not : {X : Type 0} (f : X → Bool) (xs : List X) (i : ℕ) (d : X) → i < length xs → f (get_or xs i d) ≡ false → tally f (drop i xs) ≡ tally f (drop (i + 1) xs)
-unfolding tally
-tally_not f xs i d h e = at_drop_more (tally f) xs i d h ∙ cond-false (f (get_or xs i d)) _ _ e
+    below : (t : ℕ) → ((k : ℕ) → k < t → k < position_or_len p ys) → (m : ℕ) → 0 < m → m ≤ s + t → f m ≡ false
+    below t within m h b =
+        elim (cases_lt s m) [
+          | inl a ↦
+              let k = m - (s + 1) in
+              let w = within k (omega arith) in
+              let e : s + k + 1 ≡ m = omega arith in
+              ap f (sym e) ∙ (at k (omega (arith, prefix_len-le-length (λ x. not (p x)) ys))).1 ∙ fails_before_first p ys k d w
+          | inr a ↦ low m h a
+        ]
 
-pub tally_all : {X : Type 0} (f : X → Bool) (xs : List X) (i : ℕ) → length xs ≤ i → tally f (drop i xs) ≡ 0
-unfolding tally
-tally_all f xs i h = at_drop_all (tally f) xs i h
+    nowhere : ((m : ℕ) → 0 < m → m ≤ s + length ys → f m ≡ false) → (m : ℕ) → 0 < m → m ≤ n → f m ≡ false
+    nowhere within m h b = elim (cases_lt (s + length ys) m) [ inl a ↦ high m a b | inr a ↦ within m h a ]
+
+position-map : {A X : Type 0} (v : A → X) (p : X → Bool) (xs : List A) → position p (map v xs) ≡ position (λ x. p (v x)) xs
+position-map v p xs =
+    let r = is_position_or_len (λ ys. position_or_len p (map v ys)) (λ x. p (v x)) refl (λ x ys. turned (p (v x)) (position_or_len p (map v ys))) xs in
+    let l = length-map xs v in
+    (λ i. cond (ltb (r i) (l i)) (Some (r i)) None)
+  where
+    turned : (b : Bool) (n : ℕ) → cond (not b) (1 + n) 0 ≡ cond b 0 (1 + n)
+    turned true n = refl
+    turned false n = refl
+
+from_zero : (o : Option ℕ) → option_map (λ i. 0 + i + 1) o ≡ option_map (λ i. i + 1) o
+from_zero None = refl
+from_zero (Some i) = let e : 0 + i + 1 ≡ i + 1 = omega arith in ap Some e
+
+-- above s, by what the elements mean
+pub lowest_above : {A X : Type 0} (v : A → X) (p : X → Bool) (xs : List A) (d : X) (s : ℕ) → some_number (lowest (λ n. ltb s n && p (get_or (map v xs) (n - 1) d)) (length (map v xs))) ≡ option_map (λ i. s + i + 1) (position (λ x. p (v x)) (drop s xs))
+lowest_above {A} {X} v p xs d s =
+    let us = map v xs in
+    let l = length-drop s us in
+    lowest_first (λ n. ltb s n && p (get_or us (n - 1) d)) p (drop s us) d s (length us) (λ m h b. and_left (ltb s m) _ (le-ltb s m b)) (λ k h. (omega arith, at us k)) (λ m h b. absurd (omega arith))
+    ∙ ap (option_map (λ i. s + i + 1)) (ap (position p) (drop-map v s xs) ∙ position-map v p (drop s xs))
+  where
+    at : (us : List X) (k : ℕ) → (ltb s (s + k + 1) && p (get_or us (s + k + 1 - 1) d)) ≡ p (get_or (drop s us) k d)
+    at us k =
+        let above = lt-ltb s (s + k + 1) (omega arith) in
+        let e : s + k + 1 - 1 ≡ s + k = omega arith in
+        (λ i. above i && p (get_or us (e i) d)) ∙ ap p (sym (get_or-drop s us k d))
+
+-- all of them
+pub lowest_all : {A X : Type 0} (v : A → X) (p : X → Bool) (xs : List A) (d : X) → some_number (lowest (λ n. p (get_or (map v xs) (n - 1) d)) (length (map v xs))) ≡ option_map (λ i. i + 1) (position (λ x. p (v x)) xs)
+lowest_all {A} {X} v p xs d =
+    let us = map v xs in
+    lowest_first (λ n. p (get_or us (n - 1) d)) p us d 0 (length us) (λ m h b. absurd (omega arith)) (λ k h. (omega arith, let e : 0 + k + 1 - 1 ≡ k = omega arith in ap (λ n. p (get_or us n d)) e)) (λ m h b. absurd (omega arith))
+    ∙ ap (option_map (λ i. 0 + i + 1)) (position-map v p xs)
+    ∙ from_zero _
+
+-- up to the last, where nothing past the elements passes
+pub lowest_within : {A X : Type 0} (v : A → X) (p : X → Bool) (xs : List A) (d : X) (last : ℕ) → p d ≡ false → some_number (lowest (λ n. p (get_or (map v xs) (n - 1) d)) last) ≡ option_map (λ i. i + 1) (position (λ x. p (v x)) (take last xs))
+lowest_within {A} {X} v p xs d last past =
+    let us = map v xs in
+    let l = length-take last us in
+    lowest_first (λ n. p (get_or us (n - 1) d)) p (take last us) d 0 last (λ m h b. absurd (omega arith)) (λ k h. (omega arith, at us k (omega arith))) (λ m h b. ap p (get_or_past us (m - 1) d (omega arith)) ∙ past)
+    ∙ ap (option_map (λ i. 0 + i + 1)) (ap (position p) (take-map v last xs) ∙ position-map v p (take last xs))
+    ∙ from_zero _
+  where
+    at : (us : List X) (k : ℕ) → k < last → p (get_or us (0 + k + 1 - 1) d) ≡ p (get_or (take last us) k d)
+    at us k h =
+        let e : 0 + k + 1 - 1 ≡ k = omega arith in
+        ap (λ n. p (get_or us n d)) e ∙ ap p (sym (get_or-take last us k d h))
 
 -- ---- numbers that were given
 

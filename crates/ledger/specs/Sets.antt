@@ -24,7 +24,7 @@ set_of x = record { home = x.home; s = x.s; transaction = x.transaction; pairs =
 
 -- the write sets that are held, from number 1 on
 abbrev pub sets_of : WriteSets → List SetModel
-sets_of us = map set_of (vec_items us.items)
+sets_of us = map set_of (vec_items us.given.items)
 
 -- what stands past the last number; no call reaches it
 abbrev pub no_set : SetModel

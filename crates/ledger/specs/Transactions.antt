@@ -43,7 +43,7 @@ moved x e = record { home = x.home; place = x.place; s = x.s; state = unwrap_or 
 
 -- the transactions that are held, from number 1 on
 abbrev pub txns_of : Transactions → List Transaction
-txns_of ts = vec_items ts.items
+txns_of ts = vec_items ts.given.items
 
 -- what stands past the last transaction; no call reaches it
 abbrev pub no_transaction : Transaction

@@ -3,6 +3,7 @@
 
 pub mod applied;
 mod clash;
+mod given;
 pub mod numbered;
 pub mod progress;
 pub mod transaction;

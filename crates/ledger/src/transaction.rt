@@ -1,6 +1,6 @@
 // A transaction, and the events that it takes.
 ghost use Rattle.std.specs.Prelude.{◌≡◌};
-ghost use Rattle.ledger.specs.Transactions.{takes, moved, busy_at};
+ghost use Rattle.ledger.specs.Transactions.{judged, next, takes, moved, is_busy, busy_at};
 
 use crate::verdict::Verdict;
 
@@ -33,50 +33,57 @@ pub struct Transaction {
     pub state: TransactionState,
 }
 
+impl From<Verdict> for TransactionState {
+    ghost from_gives = { λ v q. q ≡ judged v };
+
+    fn from(verdict: Verdict) -> TransactionState {
+        match verdict {
+            Verdict::ReadOnly => TransactionState::Committed,
+            Verdict::Numbered(n) => TransactionState::Pending(n),
+            Verdict::Clash(_) => TransactionState::Aborted,
+        }
+    }
+}
+
+impl TransactionState {
+    /// The state that an event leads to; none where it is not taken.
+    pub fn after(self, event: Event) -> Option<TransactionState>
+        ensures answer { result ≡ next self event }
+    {
+        match (self, event) {
+            (TransactionState::Open, Event::Read | Event::Write) => Some(TransactionState::Open),
+            (TransactionState::Open, Event::Commit(verdict)) => Some(verdict.into()),
+            (TransactionState::Open, Event::GiveUp) => Some(TransactionState::GivenUp),
+            (TransactionState::Pending(_), Event::Applied) => Some(TransactionState::Committed),
+            _ => None,
+        }
+    }
+
+    /// Whether it is open or pending.
+    fn is_busy(self) -> bool
+        ensures answer { result ≡ is_busy self }
+    {
+        matches!(self, TransactionState::Open | TransactionState::Pending(_))
+    }
+}
+
 impl Transaction {
     /// Takes an event, where its state does, and tells whether.
     pub fn take(&mut self, event: Event) -> bool
         ensures answer { result ≡ takes self.old.state event }
         ensures after { self.new ≡ moved self.old event }
     {
-        match (self.state, event) {
-            (TransactionState::Open, Event::Read) => true,
-            (TransactionState::Open, Event::Write) => true,
-            (TransactionState::Open, Event::Commit(Verdict::ReadOnly)) => {
-                self.state = TransactionState::Committed;
-                true
-            }
-            (TransactionState::Open, Event::Commit(Verdict::Numbered(n))) => {
-                self.state = TransactionState::Pending(n);
-                true
-            }
-            (TransactionState::Open, Event::Commit(Verdict::Clash(_))) => {
-                self.state = TransactionState::Aborted;
-                true
-            }
-            (TransactionState::Open, Event::GiveUp) => {
-                self.state = TransactionState::GivenUp;
-                true
-            }
-            (TransactionState::Pending(_), Event::Applied) => {
-                self.state = TransactionState::Committed;
-                true
-            }
-            _ => false,
-        }
+        let Some(state) = self.state.after(event) else {
+            return false;
+        };
+        self.state = state;
+        true
     }
 
     /// Whether it is open or pending, and at home at a replica.
     pub(crate) fn busy_at(&self, replica: u8) -> bool
         ensures answer { result ≡ busy_at replica self.now }
     {
-        if self.home != replica {
-            return false;
-        }
-        match self.state {
-            TransactionState::Open => true,
-            TransactionState::Pending(_) => true,
-            _ => false,
-        }
+        self.home == replica && self.state.is_busy()
     }
 }

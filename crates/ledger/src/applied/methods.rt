@@ -15,18 +15,17 @@ impl Applied {
     pub fn has(&self, replica: u8) -> bool
         ensures answer { result ≡ slice_index_or (marks self.now) replica false }
     {
-        if replica as usize >= REPLICAS {
-            return false;
-        }
-        self.at[replica as usize]
+        self.at.get(usize::from(replica)).copied().unwrap_or(false)
     }
 
     /// Marks it as applied at a replica.
     pub(crate) fn mark(&mut self, replica: u8)
         ensures after { marks self.new ≡ slice_set (marks self.old) replica true }
     {
-        if (replica as usize) < REPLICAS {
-            self.at[replica as usize] = true;
+        // by its place: a `get_mut` of a slice does not say what the array becomes
+        let place = usize::from(replica);
+        if place < REPLICAS {
+            self.at[place] = true;
         }
     }
 }

@@ -9,15 +9,11 @@ impl NumberedSets for WriteSets {
     ghost items = { λ us. items_of_sets (sets_of us) };
 
     fn count(&self) -> usize {
-        self.items.len()
+        self.given.len()
     }
 
     fn item(&self, n: usize) -> Option<NumberedSet> {
-        let count = self.items.len();
-        if n < 1 || n > count {
-            return None;
-        }
-        let x = self.items[n - 1];
+        let x = self.given.get(n)?;
         Some(NumberedSet {
             home: x.home,
             s: x.s,

@@ -1,13 +1,16 @@
--- The lowest number that is not applied is one that was given.
-use Rattle.std.proofs.Common.{◌≡◌, ℕ, true, map, length, IfSome, Option, sym, ap, ◌∙◌, subst}
-use Rattle.ledger.specs.Words.{up_to}
-use Rattle.ledger.specs.Sets.{set_of, sets_of, unapplied_at, lowest_unapplied}
-use Rattle.ledger.proofs.Upward.{lowest_given}
+-- The first that is not applied is the lowest.
+use Rattle.std.proofs.Common.{◌≡◌, ◌+◌, vec_items, sym, ap, ◌∙◌, rules}
+use Rattle.std.specs.List.{position}
+use Rattle.std.specs.Option.{option_map}
+use Rattle.ledger.specs.declared.numbered.Numbered.{Numbered}
+use Rattle.ledger.specs.Sets.{set_of, no_set, is_unapplied, lowest_unapplied}
+use Rattle.ledger.proofs.Upward.{lowest_all}
 use Rattle.ledger.proofs.write_sets.WriteSets.lowest_unapplied.Goals as goal
 
-pub returns : goal.returns
+pub returns-clause-answer : goal.returns-clause-answer
 unfolding lowest_unapplied
-returns c =
-    let us = sets_of c.args.self.now in
-    let told : c.lowest_unapplied_among.result ≡ lowest_unapplied us c.args.replica = c.lowest_unapplied_among.ensures.answer ∙ ap (λ xs. lowest_unapplied (map set_of xs) c.args.replica) c.deref.ensures.value in
-    record { answer = told; given = subst (λ (o : Option ℕ). IfSome o (λ n. up_to (length us) n ≡ true)) (sym told) (lowest_given (unapplied_at us c.args.replica) (length us)) }
+returns-clause-answer c =
+    let p = is_unapplied c.args.replica in
+    let held : c.deref.result.now ≡ vec_items c.args.self.now.given.items = c.deref.ensures.value in
+    let number : c.map.result ≡ option_map (λ i. i + 1) c.first_unapplied.result = search rules in
+    number ∙ ap (option_map (λ i. i + 1)) (c.first_unapplied.ensures.place ∙ ap (position (λ (x : Numbered). p (set_of x))) held) ∙ sym (lowest_all set_of p (vec_items c.args.self.now.given.items) no_set)

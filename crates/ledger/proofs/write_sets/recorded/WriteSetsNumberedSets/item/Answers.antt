@@ -1,21 +1,23 @@
 -- The item of a number is its write set without whose it is and where it is applied.
-use Rattle.std.proofs.Common.{ℕ, ◌-◌, ◌<◌, ◌≤◌, ◌⊎◌, length, Some, vec_items, ap, ◌∙◌, subst, arith}
-use Rattle.record_format.proofs.Numbering.{numbered_at, none_past}
-use Rattle.ledger.specs.Sets.{SetModel, sets_of, no_set}
+use Rattle.std.proofs.Common.{◌≡◌, None, vec_items, sym, ap, ◌∙◌, rules}
+use Rattle.std.specs.Option.{option_map}
+use Rattle.record_format.specs.Meaning.{item_of}
+use Rattle.ledger.specs.Sets.{set_of, sets_of}
 use Rattle.ledger.specs.Records.{item_of_set}
-use Rattle.ledger.proofs.Items.{set_is, length-sets}
+use Rattle.ledger.proofs.Items.{numbered-map}
 use Rattle.ledger.proofs.write_sets.recorded.WriteSetsNumberedSets.item.Goals as goal
 
-pub returns-then-n-lt1 : goal.returns-then-n-lt1
-returns-then-n-lt1 c =
-    let us = sets_of c.args.self.now in
+pub returns-in_err-x : goal.returns-in_err-x
+returns-in_err-x c =
+    let xs = vec_items c.args.self.now.given.items in
     let n = c.args.n in
-    record { answer = none_past item_of_set us n (subst (λ (k : ℕ). (n < 1) ⊎ ((1 ≤ n) × (k < n))) (omega (arith, length-sets c.args.self.now)) c.then-n-lt1.either) }
+    let none : c.from_residual.result ≡ None = search rules in
+    let seen = numbered-map set_of xs n ∙ ap (option_map set_of) (sym c.get.ensures.answer ∙ c.in_err-x.was) in
+    record { answer = ap (option_map item_of) none ∙ sym (numbered-map item_of_set (sets_of c.args.self.now) n ∙ ap (option_map item_of_set) seen) }
 
 pub returns : goal.returns
 returns c =
-    let xs = vec_items c.args.self.now.items in
-    let us = sets_of c.args.self.now in
+    let xs = vec_items c.args.self.now.given.items in
     let n = c.args.n in
-    let within : n - 1 < length xs = omega (arith, c.args.self.now.items.ok.0) in
-    record { answer = ap (λ (u : SetModel). Some (item_of_set u)) (set_is xs n c.index-x.result.now within c.index-x.ensures) ∙ numbered_at item_of_set us n no_set c.if-n-lt1.false (omega (arith, length-sets c.args.self.now)) }
+    let seen = numbered-map set_of xs n ∙ ap (option_map set_of) (sym c.get.ensures.answer ∙ c.in_ok-x.was) in
+    record { answer = sym (numbered-map item_of_set (sets_of c.args.self.now) n ∙ ap (option_map item_of_set) seen) }
