@@ -1,55 +1,78 @@
 -- Lines, one after the other.
-use Rattle.std.proofs.Common.{◌≡◌, ℕ, suc, ◌+◌, ◌-◌, ◌<◌, ◌≤◌, true, false, cond, not, ◌||◌, eqb, List, [], ◌++◌, length, get_or, take, drop, Some, sym, ap, ◌∙◌, arith}
-use Rattle.std.specs.List.{flat_map}
-use Rattle.std.proofs.lemmas.Bool.{eq-eqb, ne_eqb, cond-true, cond-false}
-use Rattle.std.proofs.lemmas.List.{append_assoc, append-nil, take_more, take_all, drop_all, flat_map_more}
+use Rattle.std.proofs.Common.{◌≡◌, ℕ, zero, suc, ◌+◌, ◌-◌, ◌*◌, ◌<◌, ◌≤◌, true, false, cond, not, ◌||◌, ◌==◌, List, [], ◌∷◌, ◌++◌, map, length, get_or, take, drop, sym, refl, ap, ◌∙◌, arith}
+use Rattle.std.specs.List.{flat_map, list_any}
+use Rattle.std.specs.Simd.{first_chunks}
+use Rattle.std.proofs.lemmas.Bool.{cond-true, cond-false}
+use Rattle.std.proofs.lemmas.List.{append_assoc, append-nil, at_drop_more, drop_more, drop-drop, get_or-take, get_or-drop, get_or-map, length-map}
 use Rattle.tickets.specs.Boards.{Board}
-use Rattle.tickets.specs.WriteSets.{Pairs}
+use Rattle.tickets.specs.Pairs.{pair_of}
+use Rattle.tickets.specs.declared.pair.Pair.{Pair}
 use Rattle.record_format.specs.Items.{Item}
-use Rattle.record_format.specs.Reading.{numbered}
-use Rattle.record_format.proofs.Numbering.{next_item}
-use Rattle.record_format.proofs.Sets.{pair_told, told_pair}
-use Rattle.listing.specs.Listing.{pair_text, item_text, items_text, field, used_from, used, ticket_at, ticket_text, tickets_text}
+use Rattle.listing.specs.Listing.{pair_text, item_text, items_text, field, used_from, used, ticket_at, ticket_of, ticket_text, tickets_text}
 
 -- one text behind another
 pub added_twice : (t0 xs ys : List ℕ) {t1 t2 : List ℕ} → t1 ≡ t0 ++ xs → t2 ≡ t1 ++ ys → t2 ≡ t0 ++ (xs ++ ys)
 added_twice t0 xs ys p q = q ∙ ap (λ l. l ++ ys) p ∙ append_assoc t0 xs ys
 
+-- what is written and what is left stay the whole
+pub one_more : (text line rest : List ℕ) {left after whole : List ℕ} → left ≡ line ++ rest → after ≡ text ++ line → text ++ left ≡ whole → after ++ rest ≡ whole
+one_more text line rest l a e = ap (λ t. t ++ rest) a ∙ append_assoc text line rest ∙ ap (λ t. text ++ t) (sym l) ∙ e
+
+pub nothing_left : (text : List ℕ) {left whole : List ℕ} → left ≡ [] → text ++ left ≡ whole → text ≡ whole
+nothing_left text l e = sym (ap (λ t. text ++ t) l ∙ append-nil text) ∙ e
+
 -- ---- the pairs of a write set
 
-pub pairs_more : (ps : Pairs) (i : ℕ) (p : ℕ × ℕ) (text before after : List ℕ) → i < length ps → Some p ≡ pair_told ps i → text ≡ before ++ flat_map pair_text (take i ps) → after ≡ text ++ pair_text p → after ≡ before ++ flat_map pair_text (take (i + 1) ps)
-pairs_more ps i p text before after h e t a =
-    let same = ap pair_text (told_pair ps i p h e) in
-    a ∙ (λ j. t j ++ same j) ∙ flat_map_more pair_text before (take i ps) (get_or ps i (0, 0)) ∙ ap (λ l. before ++ flat_map pair_text l) (sym (take_more ps i (0, 0) h))
+pub next_pair : (ps : List Pair) (i : ℕ) (d : Pair) → i < length ps → flat_map pair_text (drop i (map pair_of ps)) ≡ pair_text (pair_of (get_or ps i d)) ++ flat_map pair_text (drop (i + 1) (map pair_of ps))
+next_pair ps i d h =
+    let rest = drop (i + 1) (map pair_of ps) in
+    at_drop_more (flat_map pair_text) (map pair_of ps) i (pair_of d) (omega (arith, length-map ps pair_of))
+    ∙ ap (λ (p : ℕ × ℕ). pair_text p ++ flat_map pair_text rest) (get_or-map pair_of ps i d (pair_of d) h)
 
-pub pairs_all : (ps : Pairs) (i : ℕ) (text before : List ℕ) → length ps ≤ i → text ≡ before ++ flat_map pair_text (take i ps) → text ≡ before ++ flat_map pair_text ps
-pairs_all ps i text before h t = t ∙ ap (λ l. before ++ flat_map pair_text l) (take_all i ps h)
+-- ---- the fields of a ticket, as a part of its board
 
--- ---- the lines of the write sets
+-- the ticket of a number is eight values of the board
+chunk_at : (k t : ℕ) (b : Board) (d : List ℕ) → t < k → get_or (first_chunks 8 k b) t d ≡ take 8 (drop (8 * t) b)
+chunk_at zero t b d h = absurd (omega arith)
+chunk_at (suc k) zero b d h = refl
+chunk_at (suc k) (suc t) b d h =
+    let e : 8 + 8 * t ≡ 8 * suc t = omega arith in
+    chunk_at k t (drop 8 b) d (omega arith) ∙ ap (take 8) (drop-drop (8 * t) 8 b ∙ ap (λ n. drop n b) e)
 
-pub items_more : (its : List Item) (i : ℕ) (it : Item) → Some it ≡ numbered its (i + 1) → items_text (i + 1) (drop i its) ≡ item_text (i + 1) it ++ items_text (i + 1 + 1) (drop (i + 1) its)
-unfolding items_text
-items_more its i it e = ap (items_text (i + 1)) (next_item its i it e)
-
-pub items_none : (its : List Item) (n i : ℕ) → length its ≤ i → items_text n (drop i its) ≡ []
-unfolding items_text
-items_none its n i h = ap (items_text n) (drop_all i its h)
-
--- ---- whether a ticket is used
-
-pub used_more : (b : Board) (t k : ℕ) → k < 8 → used_from b t k (8 - k) ≡ not (eqb (field b t k) 0) || used_from b t (k + 1) (8 - (k + 1))
+-- some of the n values from one on is other than 0
+any_from : (n k t : ℕ) (b : Board) → 8 * t + k + n ≤ length b → used_from b t k n ≡ list_any (λ v. not (v == 0)) (take n (drop (8 * t + k) b))
 unfolding used_from
-used_more b t k h = let e : 8 - k ≡ suc (8 - (k + 1)) = omega arith in ap (used_from b t k) e
+any_from zero k t b h = refl
+any_from (suc n) k t b h =
+    let p = 8 * t + k in
+    let e : 8 * t + (k + 1) ≡ p + 1 = omega arith in
+    let d = drop_more b p 0 (omega arith) in
+    ap (λ r. not (field b t k == 0) || r) (any_from n (k + 1) t b (omega arith) ∙ ap (λ m. list_any (λ v. not (v == 0)) (take n (drop m b))) e)
+    ∙ ap (λ (l : List ℕ). list_any (λ v. not (v == 0)) (take (suc n) l)) (sym d)
 
-pub used_here : (b : Board) (t k : ℕ) → k < 8 → (field b t k ≡ 0 → ⊥) → used_from b t k (8 - k) ≡ true
-used_here b t k h n = used_more b t k h ∙ ap (λ e. not e || used_from b t (k + 1) (8 - (k + 1))) (ne_eqb (field b t k) 0 n)
+module _ (b : Board) (t : ℕ) (d : List ℕ) (inside : t < 16) (whole : length b ≡ 128) where
+  pub used_any : used b t ≡ list_any (λ v. not (v == 0)) (get_or (first_chunks 8 16 b) t d)
+  used_any =
+      let z : 8 * t + 0 ≡ 8 * t = omega arith in
+      any_from 8 0 t b (omega arith) ∙ ap (λ m. list_any (λ v. not (v == 0)) (take 8 (drop m b))) z
+      ∙ ap (list_any (λ v. not (v == 0))) (sym (chunk_at 16 t b d inside))
 
-pub unused_here : (b : Board) (t k : ℕ) → k < 8 → field b t k ≡ 0 → used_from b t k (8 - k) ≡ used_from b t (k + 1) (8 - (k + 1))
-unused_here b t k h z = used_more b t k h ∙ ap (λ e. not e || used_from b t (k + 1) (8 - (k + 1))) (eq-eqb (field b t k) 0 z)
+  field_at : (k : ℕ) → k < 8 → get_or (get_or (first_chunks 8 16 b) t d) k 0 ≡ field b t k
+  field_at k h = ap (λ (l : List ℕ). get_or l k 0) (chunk_at 16 t b d inside) ∙ get_or-take 8 (drop (8 * t) b) k 0 h ∙ get_or-drop (8 * t) b k 0
 
-pub unused : (b : Board) (t k : ℕ) → 8 ≤ k → used_from b t k (8 - k) ≡ false
-unfolding used_from
-unused b t k h = let e : 8 - k ≡ 0 = omega arith in ap (used_from b t k) e
+  pub ticket_is : ticket_of (get_or (first_chunks 8 16 b) t d) ≡ ticket_at b t
+  ticket_is =
+      let f = field_at in
+      λ i. record {
+        stage = f 0 (omega arith) i;
+        pages = f 1 (omega arith) i;
+        sheets = f 2 (omega arith) i;
+        plates = f 3 (omega arith) i;
+        fold = f 4 (omega arith) i;
+        press = f 5 (omega arith) i;
+        paper = f 6 (omega arith) i;
+        waste = f 7 (omega arith) i;
+      }
 
 -- ---- the lines of the tickets
 
@@ -57,29 +80,22 @@ tickets_more : (b : Board) (t : ℕ) → t < 16 → tickets_text b t (16 - t) �
 unfolding tickets_text
 tickets_more b t h = let e : 16 - t ≡ suc (16 - (t + 1)) = omega arith in ap (tickets_text b t) e
 
--- what is written and what is left stay the whole
-pub ticket_written : (b : Board) (t : ℕ) (text after x : List ℕ) → t < 16 → true ≡ used b t → after ≡ text ++ ticket_text t (ticket_at b t) → text ++ tickets_text b t (16 - t) ≡ x → after ++ tickets_text b (t + 1) (16 - (t + 1)) ≡ x
-ticket_written b t text after x h u a e =
-    let rest = tickets_text b (t + 1) (16 - (t + 1)) in
-    ap (λ l. l ++ rest) a ∙ append_assoc text (ticket_text t (ticket_at b t)) rest
-    ∙ ap (λ l. text ++ l) (sym (tickets_more b t h ∙ ap (λ l. l ++ rest) (cond-true (used b t) (ticket_text t (ticket_at b t)) [] (sym u)))) ∙ e
+pub ticket_shown : (b : Board) (t : ℕ) → t < 16 → used b t ≡ true → tickets_text b t (16 - t) ≡ ticket_text t (ticket_at b t) ++ tickets_text b (t + 1) (16 - (t + 1))
+ticket_shown b t h u = tickets_more b t h ∙ ap (λ l. l ++ tickets_text b (t + 1) (16 - (t + 1))) (cond-true (used b t) (ticket_text t (ticket_at b t)) [] u)
 
-pub ticket_passed : (b : Board) (t : ℕ) (text after x : List ℕ) → t < 16 → false ≡ used b t → after ≡ text → text ++ tickets_text b t (16 - t) ≡ x → after ++ tickets_text b (t + 1) (16 - (t + 1)) ≡ x
-ticket_passed b t text after x h u a e =
-    let rest = tickets_text b (t + 1) (16 - (t + 1)) in
-    ap (λ l. l ++ rest) a ∙ ap (λ l. text ++ l) (sym (tickets_more b t h ∙ ap (λ l. l ++ rest) (cond-false (used b t) (ticket_text t (ticket_at b t)) [] (sym u)))) ∙ e
+pub ticket_passed : (b : Board) (t : ℕ) → t < 16 → used b t ≡ false → tickets_text b t (16 - t) ≡ tickets_text b (t + 1) (16 - (t + 1))
+ticket_passed b t h u = tickets_more b t h ∙ ap (λ l. l ++ tickets_text b (t + 1) (16 - (t + 1))) (cond-false (used b t) (ticket_text t (ticket_at b t)) [] u)
 
-pub tickets_written : (b : Board) (t : ℕ) (text x : List ℕ) → 16 ≤ t → text ++ tickets_text b t (16 - t) ≡ x → text ≡ x
+pub no_ticket : (b : Board) (t : ℕ) → 16 ≤ t → tickets_text b t (16 - t) ≡ []
 unfolding tickets_text
-tickets_written b t text x h e = let z : 16 - t ≡ 0 = omega arith in sym (ap (λ k. text ++ tickets_text b t k) z ∙ append-nil text) ∙ e
+no_ticket b t h = let z : 16 - t ≡ 0 = omega arith in ap (tickets_text b t) z
 
--- ---- the whole
+-- ---- the lines of the write sets
 
--- what is written and what is left of the write sets' lines stay the whole
-pub item_written : (its : List Item) (i : ℕ) (it : Item) (text after x : List ℕ) → Some it ≡ numbered its (i + 1) → after ≡ text ++ item_text (i + 1) it → text ++ items_text (i + 1) (drop i its) ≡ x → after ++ items_text (i + 1 + 1) (drop (i + 1) its) ≡ x
-item_written its i it text after x n a e =
-    let rest = items_text (i + 1 + 1) (drop (i + 1) its) in
-    ap (λ l. l ++ rest) a ∙ append_assoc text (item_text (i + 1) it) rest ∙ ap (λ l. text ++ l) (sym (items_more its i it n)) ∙ e
+pub next_line : (n : ℕ) {its rest : List Item} {it : Item} → its ≡ it ∷ rest → items_text n its ≡ item_text n it ++ items_text (n + 1) rest
+unfolding items_text
+next_line n e = ap (items_text n) e
 
-pub items_written : (its : List Item) (i : ℕ) (text x : List ℕ) → length its ≤ i → text ++ items_text (i + 1) (drop i its) ≡ x → text ≡ x
-items_written its i text x h e = sym (ap (λ l. text ++ l) (items_none its (i + 1) i h) ∙ append-nil text) ∙ e
+pub no_line : (n : ℕ) {its : List Item} → its ≡ [] → items_text n its ≡ []
+unfolding items_text
+no_line n e = ap (items_text n) e

@@ -1,5 +1,5 @@
 -- What a record tells, as text: a line for each write set, and then a line for each ticket that the run left other than empty.
-use Rattle.std.specs.Prelude.{◌≡◌, ℕ, zero, suc, ◌+◌, ◌*◌, Bool, false, cond, not, ◌||◌, List, [], ◌∷◌, ◌++◌, replicate, string_bytes, codes, decimal, String, ◌==◌}
+use Rattle.std.specs.Prelude.{◌≡◌, ℕ, zero, suc, ◌+◌, ◌*◌, Bool, false, cond, not, ◌||◌, List, [], ◌∷◌, ◌++◌, replicate, slice_index, string_bytes, codes, decimal, String, ◌==◌}
 use Rattle.std.specs.List.{flat_map}
 use Rattle.std.specs.declared.alloc.Global.{Global}
 use Rattle.tickets.specs.Boards.{Board, value}
@@ -38,6 +38,29 @@ ticket_at b t = record {
   paper = field b t 6;
   waste = field b t 7;
 }
+
+-- the ticket of eight fields
+abbrev pub ticket_of : List ℕ → Ticket
+ticket_of fields = record {
+  stage = slice_index fields 0;
+  pages = slice_index fields 1;
+  sheets = slice_index fields 2;
+  plates = slice_index fields 3;
+  fold = slice_index fields 4;
+  press = slice_index fields 5;
+  paper = slice_index fields 6;
+  waste = slice_index fields 7;
+}
+
+-- the fields of a ticket by name, as a program prints them
+abbrev pub fields_text : Ticket → List ℕ
+fields_text t =
+    codes "stage " ++ (decimal t.stage
+    ++ (codes " pages " ++ (decimal t.pages
+    ++ (codes " sheets " ++ (decimal t.sheets
+    ++ (codes " plates " ++ (decimal t.plates
+    ++ (codes " fold " ++ (decimal t.fold
+    ++ (codes " press " ++ (decimal t.press ++ (codes " paper " ++ (decimal t.paper ++ (codes " waste " ++ decimal t.waste))))))))))))))
 
 -- the line of ticket n: its number, and its fields by name
 abbrev pub front_text : ℕ → Ticket → List ℕ

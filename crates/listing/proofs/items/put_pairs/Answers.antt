@@ -1,21 +1,21 @@
-use Rattle.std.proofs.Common.{◌<◌, length, string_bytes, ap, ◌∙◌, arith}
-use Rattle.tickets.specs.Meaning.{pairs, pair_of}
-use Rattle.record_format.proofs.Sets.{always_told}
-use Rattle.listing.proofs.Lines.{pairs_more, pairs_all}
+use Rattle.std.proofs.Common.{◌++◌, map, string_bytes, ap, ◌∙◌, arith}
+use Rattle.std.specs.List.{flat_map}
+use Rattle.std.proofs.lemmas.List.{at_drop_all, length-map}
+use Rattle.tickets.specs.Meaning.{pair_of}
+use Rattle.listing.specs.Listing.{pair_text}
+use Rattle.listing.proofs.Lines.{one_more, nothing_left, next_pair}
 use Rattle.listing.proofs.items.put_pairs.Goals as goal
-use Rattle.listing.proofs.items.put_pairs.Goals.{in-Some+in_ok-put_pair, in_default}
 
-pub loop-i-preserved : goal.loop-i-preserved
-loop-i-preserved c =
-    let ps = pairs c.args.set.now in
-    let i = c.loop-i.i in
-    let h : i < length ps = omega (arith, c.len-i-end.ensures.answer) in
-    elim c.match-pair.branch [
-      | in-Some+in_ok-put_pair w ↦
-          pairs_more ps i (pair_of w.in-Some.pair) (string_bytes c.loop-i.text) (string_bytes c.args.text.now) (string_bytes c.match-pair.text) h w.in-Some.ensures.answer c.loop-i.invariant
-          (ap string_bytes w.text-is ∙ w.in_ok-put_pair.ensures.bytes)
-      | in_default w ↦ absurd (always_told ps i h w.in_default.ensures.answer)
-    ]
+pub loop-pair-preserved : goal.loop-pair-preserved
+loop-pair-preserved c =
+    one_more (string_bytes c.loop-pair.text) _ _ (next_pair c.pairs-pair-items.result.now c.loop-pair.pair-index _ c.loop-pair-test.true)
+    c.in_ok-put_pair.ensures.bytes c.loop-pair.invariant
 
 pub returns : goal.returns
-returns c = record { bytes = pairs_all (pairs c.args.set.now) c.loop-i.i _ _ (omega (arith, c.len-i-end.ensures.answer)) c.loop-i.invariant }
+returns c =
+    let xs = c.pairs-pair-items.result.now in
+    let e = at_drop_all (flat_map pair_text) (map pair_of xs) c.loop-pair.pair-index (omega (arith, length-map xs pair_of)) in
+    record {
+      bytes =
+          nothing_left (string_bytes c.loop-pair.text) e c.loop-pair.invariant ∙ ap (λ ps. string_bytes c.args.text.now ++ flat_map pair_text ps) c.pairs-pair-items.ensures.answer;
+    }
