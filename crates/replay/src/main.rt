@@ -1,39 +1,19 @@
 // Reads a record on standard input and prints its write sets, and the tickets that they leave.
 #![tactic(auto)]
 
-ghost use Rattle.std.specs.Prelude.{◌≡◌, ◌≤◌, length, IfOk};
-
 use anyhow::anyhow;
 use listing::list;
 use record::{LONGEST, RecordFault};
-use std::io;
 use std::io::Read;
 
 // One byte more than the longest record, so that a longer input is seen to be too long and not read for ever.
-const MOST: usize = LONGEST + 1;
-
-/// Fills the buffer from the input as far as both go, and answers how many bytes came.
-fn fill(input: &mut impl Read, buffer: &mut [u8]) -> io::Result<usize>
-    ensures bound { IfOk result (λ n. n ≤ length buffer.new) }
-{
-    let mut n = 0usize;
-    for _ in 0..u64::MAX {
-        if n >= buffer.len() {
-            return Ok(n);
-        }
-        let got = input.read(&mut buffer[n..])?;
-        if got == 0 {
-            return Ok(n);
-        }
-        n += got;
-    }
-    Ok(n)
-}
+const MOST: u64 = LONGEST as u64 + 1;
 
 fn main(rt: HostRuntime) -> anyhow::Result<()> {
-    let mut buffer = [0u8; MOST];
-    let n = fill(&mut rt.stdin(), &mut buffer)?;
-    match list(rt.alloc(), &buffer[0..n]) {
+    let heap = rt.alloc();
+    let mut record = Vec::new(heap);
+    rt.stdin().take(MOST).read_to_end(&mut record)?;
+    match list(heap, &record) {
         Ok(text) => {
             print!(rt; "{text}")?;
             Ok(())

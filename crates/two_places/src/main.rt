@@ -1,9 +1,6 @@
 // Two places on each kind of store write the same object: one commits, and the other is refused.
 #![tactic(auto)]
 
-ghost use Rattle.std.specs.Prelude.{◌≡◌};
-ghost use Rattle.stores.specs.Faults.{number_of};
-
 use anyhow::anyhow;
 use clients::{Entry, Order, run_race};
 use copy_store::CopyStore;
@@ -14,21 +11,6 @@ use version_store::VersionStore;
 
 const OBJECT: usize = 8;
 
-// A refusal's number.
-fn number(fault: StoreFault) -> u8
-    ensures answer { result ≡ number_of fault }
-{
-    match fault {
-        StoreFault::NoObject => 3,
-        StoreFault::NoPlace => 6,
-        StoreFault::NinthObject => 30,
-        StoreFault::Overtaken => 34,
-        StoreFault::Full => 35,
-        StoreFault::PlaceOpen => 36,
-        StoreFault::PlaceClosed => 37,
-    }
-}
-
 // What a committer was answered.
 #[derive(Clone, Copy)]
 struct Verdict(Result<(), StoreFault>);
@@ -38,7 +20,7 @@ impl fmt::Display for Verdict {
         match self.0 {
             Ok(_) => write!(f, "done"),
             Err(fault) => {
-                let refusal = number(fault);
+                let refusal = fault.number();
                 write!(f, "refused with {refusal}")
             }
         }
@@ -46,22 +28,19 @@ impl fmt::Display for Verdict {
 }
 
 fn entry(place: usize, value: u32) -> anyhow::Result<Entry> {
-    let Some(set) = WriteSet::one(Pair {
+    let pair = Pair {
         object: OBJECT,
         value,
-    }) else {
-        return Err(anyhow!("no such object"));
     };
+    let set = WriteSet::one(pair).ok_or_else(|| anyhow!("no such object"))?;
     Ok(Entry { place, set })
 }
 
 fn show<S: Store>(rt: &HostRuntime, name: &str, store: &mut S, order: Order) -> anyhow::Result<()> {
-    let Ok(race) = run_race(store, entry(0, 5)?, entry(1, 7)?, order) else {
-        return Err(anyhow!("a place cannot be opened"));
-    };
-    let Ok(value) = store.value(OBJECT) else {
-        return Err(anyhow!("no such object"));
-    };
+    let race = run_race(store, entry(0, 5)?, entry(1, 7)?, order).map_err(|_| anyhow!(
+        "a place cannot be opened"
+    ))?;
+    let value = store.value(OBJECT).map_err(|_| anyhow!("no such object"))?;
     let commits = store.commits();
     let first = Verdict(race.first);
     let second = Verdict(race.second);
