@@ -1,5 +1,7 @@
 -- Reading the numbers of a line one by one.
-use Rattle.std.proofs.Common.{◌≡◌, ℕ, suc, ◌+◌, ◌-◌, ◌<◌, List, [], ◌∷◌, ◌++◌, length, take, set, Some, None, Option, sym, refl, ap, ◌∙◌, arith}
+use Rattle.std.proofs.Common.{◌≡◌, ℕ, suc, ◌+◌, ◌-◌, ◌<◌, eqb, List, [], ◌∷◌, ◌++◌, length, take, set, Some, None, Option, sym, refl, ap, ◌∙◌, arith}
+use Rattle.std.specs.Bool.{then_some}
+use Rattle.std.proofs.lemmas.Bool.{ne_eqb}
 use Rattle.std.proofs.lemmas.List.{append_assoc, append-nil, take_more_set}
 use Rattle.lines.specs.Reading.{number_in, before, numbers_in}
 use Rattle.lines.specs.Tokens.{token_in_front, behind_token}
@@ -37,12 +39,8 @@ module _ (rest : List ℕ) (all : Option (List ℕ)) (k k' : ℕ) (one : k ≡ s
   no_number_there ns is h = sym h ∙ ap (λ m. after ns (numbers_in m rest)) one ∙ ap (λ o. after ns (before o (numbers_in k' (behind_token rest)))) (sym is)
 
 -- none is to come, so all depends on whether something is left
-pub all_numbers_read : (rest ns : List ℕ) (all : Option (List ℕ)) (k : ℕ) → k ≡ 0 → length rest ≡ 0 → after ns (numbers_in k rest) ≡ all → Some ns ≡ all
+pub all_or_none : (rest ns : List ℕ) (all : Option (List ℕ)) (k : ℕ) → k ≡ 0 → after ns (numbers_in k rest) ≡ all → then_some (eqb (length rest) 0) ns ≡ all
 unfolding numbers_in
-all_numbers_read [] ns all k none done h = ap Some (sym (append-nil ns)) ∙ ap (λ m. after ns (numbers_in m [])) (sym none) ∙ h
-all_numbers_read (b ∷ bs) ns all k none done h = absurd (omega arith)
-
-pub something_is_left : (rest ns : List ℕ) (all : Option (List ℕ)) (k : ℕ) → k ≡ 0 → (length rest ≡ 0 → ⊥) → after ns (numbers_in k rest) ≡ all → None ≡ all
-unfolding numbers_in
-something_is_left [] ns all k none more h = absurd (more refl)
-something_is_left (b ∷ bs) ns all k none more h = ap (λ m. after ns (numbers_in m (b ∷ bs))) (sym none) ∙ h
+all_or_none [] ns all k none h = ap Some (sym (append-nil ns)) ∙ ap (λ m. after ns (numbers_in m [])) (sym none) ∙ h
+all_or_none (b ∷ bs) ns all k none h =
+    ap (λ e. then_some e ns) (ne_eqb (length (b ∷ bs)) 0 (λ e. omega arith)) ∙ ap (λ m. after ns (numbers_in m (b ∷ bs))) (sym none) ∙ h

@@ -1,6 +1,8 @@
 -- The first line of a script, and the others.
-use Rattle.std.proofs.Common.{◌≡◌, ℕ, suc, ◌+◌, ◌<◌, ◌≤◌, Bool, true, false, cond, not, eqb, List, [], ◌∷◌, length, take, drop, sym, refl, ap, ◌∙◌, add-one, arith}
-use Rattle.std.proofs.lemmas.List.{drop-drop}
+use Rattle.std.proofs.Common.{◌≡◌, ℕ, suc, ◌+◌, ◌<◌, ◌≤◌, Bool, true, false, cond, not, eqb, List, [], ◌∷◌, length, take, drop, Some, None, Option, sym, refl, ap, ◌∙◌, ◌⊎◌, ⊎_elim, add-one, arith, Bor}
+use Rattle.std.specs.List.{slice_range}
+use Rattle.std.specs.Option.{MatchOption, unwrap_or}
+use Rattle.std.proofs.lemmas.List.{drop-drop, nil_from_length, take_rest}
 use Rattle.lines.specs.Fronts.{front, inside}
 use Rattle.lines.specs.Scripts.{onto, lines_of}
 use Rattle.lines.proofs.Fronts.{front_comes_first}
@@ -27,6 +29,11 @@ parting_a_line_off s line behind rest n some is front-is behind-is rest_is =
     let l = front-is ∙ ap (λ k. take k s) is ∙ front_comes_first inside s in
     let r = rest_is ∙ ap (drop 1) behind-is ∙ drop-drop 1 n s ∙ ap (λ k. drop k s) (add-one n ∙ ap suc is) in
     (λ i. l i ∷ lines_of (r i)) ∙ sym (first_line_and_the_others s some)
+
+-- what stands behind the end of line, if there is one
+pub behind_the_end : (behind : Bor (List ℕ)) (o : Option (Bor (List ℕ))) → MatchOption o ((length behind.now < 1) ⊎ (length behind.now < length behind.now)) (λ l. (1 ≤ length behind.now) × (length behind.now ≤ length behind.now) × (l.now ≡ slice_range behind.now 1 (length behind.now)) × (length l.now + 1 ≡ length behind.now)) → (unwrap_or o behind).now ≡ drop 1 behind.now
+behind_the_end behind None m = let none = nil_from_length behind.now (⊎_elim (λ h. omega arith) (λ h. omega arith) m) in none ∙ sym (ap (drop 1) none)
+behind_the_end behind (Some l) m = m.2 ∙ take_rest behind.now 1
 
 byte_onto_lines : (e : Bool) (b : ℕ) (ls : List (List ℕ)) → length (cond e ([] ∷ ls) (onto b ls)) ≤ length ls + 1
 byte_onto_lines true b ls = omega arith

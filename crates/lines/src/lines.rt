@@ -1,11 +1,12 @@
 // The lines of a script, handed out one by one from its front.
 ghost use Rattle.std.specs.Prelude.{◌≡◌, length};
+ghost use Rattle.std.specs.List.{take_while};
 ghost use Rattle.std.specs.Option.{option_map};
-ghost use Rattle.lines.specs.Fronts.{front, inside};
+ghost use Rattle.lines.specs.Fronts.{inside};
 ghost use Rattle.lines.specs.Scripts.{lines_of, lines_left, parted, HandsOut};
 ghost use Rattle.std.specs.Iterator.{at_most};
 
-const END_OF_LINE: u8 = 10;
+const END_OF_LINE: u8 = b'\n';
 
 #[derive(Clone, Copy, Debug)]
 pub struct Lines<'a> {
@@ -14,15 +15,10 @@ pub struct Lines<'a> {
 }
 
 /// How many bytes stand before the first end of line, or before the end of all.
-fn front_length(bytes: &[u8]) -> usize
-    ensures answer { result ≡ length (front inside bytes.now) }
+fn line_length(script: &[u8]) -> usize
+    ensures { result ≡ length (take_while inside script.now) }
 {
-    for (n, b) in bytes.iter().enumerate() {
-        if *b == END_OF_LINE {
-            return n;
-        }
-    }
-    bytes.len()
+    script.iter().take_while(|b| **b != END_OF_LINE).count()
 }
 
 /// The first line without its end, which the last may lack, and what comes behind.
@@ -32,11 +28,8 @@ fn part<'a>(script: &'a [u8]) -> Option<(&'a [u8], &'a [u8])>
     if script.is_empty() {
         return None;
     }
-    let (line, behind) = script.split_at(front_length(script));
-    if behind.is_empty() {
-        return Some((line, behind));
-    }
-    Some((line, &behind[1..]))
+    let (line, behind) = script.split_at(line_length(script));
+    Some((line, behind.get(1..).unwrap_or(behind)))
 }
 
 impl<'a> Lines<'a> {

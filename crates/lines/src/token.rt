@@ -14,8 +14,8 @@ impl Token<'_> {
         ensures answer { result ≡ length (taken_off (Some (piece self.entry))) }
     {
         match self {
-            Token::Letter { bytes, at: _ } => bytes.len(),
-            Token::Number { bytes, at: _ } => bytes.len() + 1,
+            Token::Letter { bytes, .. } => bytes.len(),
+            Token::Number { bytes, .. } => bytes.len() + 1,
         }
     }
 }

@@ -5,7 +5,6 @@ ghost use Rattle.lines.specs.Tokens.{piece, token_in_front, taken_off, behind_to
 
 use crate::token::Token;
 use crate::tokens::Tokens;
-use crate::tokens::front::token_at;
 
 impl<'a> Tokens<'a> {
     /// A line, nothing of it cut off yet.
@@ -23,7 +22,7 @@ impl<'a> Tokens<'a> {
         ensures after { (left_of self.new ≡ behind_token (left_of self.old)) × (place_of self.new ≡ place_of self.old + length (taken_off (option_map piece result))) }
         ensures law { left_of self.old ≡ taken_off (option_map piece result) ++ left_of self.new }
     {
-        let token = token_at(self.line, self.at)?;
+        let token = self.front()?;
         self.at += token.width();
         Some(token)
     }

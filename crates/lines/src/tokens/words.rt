@@ -13,10 +13,10 @@ impl<'a> Tokens<'a> {
         ensures answer { result ≡ letter_in (token_in_front (left_of self.old)) }
         ensures after { left_of self.new ≡ behind_token (left_of self.old) }
     {
-        match self.cut()? {
-            Token::Letter { bytes, at: _ } => bytes.first().copied(),
-            Token::Number { bytes: _, at: _ } => None,
-        }
+        let Token::Letter { bytes, .. } = self.cut()? else {
+            return None;
+        };
+        bytes.first().copied()
     }
 
     /// The next token's number; none where it is no number of 32 bits.
@@ -24,10 +24,10 @@ impl<'a> Tokens<'a> {
         ensures answer { result ≡ number_in (token_in_front (left_of self.old)) }
         ensures after { left_of self.new ≡ behind_token (left_of self.old) }
     {
-        match self.cut()? {
-            Token::Letter { bytes: _, at: _ } => None,
-            Token::Number { bytes, at: _ } => number(bytes),
-        }
+        let Token::Number { bytes, .. } = self.cut()? else {
+            return None;
+        };
+        number(bytes)
     }
 
     /// As many numbers as are asked for; none where the rest of the line is anything else.
@@ -38,6 +38,6 @@ impl<'a> Tokens<'a> {
         for n in found.iter_mut() {
             *n = self.number()?;
         }
-        if self.is_done() { Some(found) } else { None }
+        self.is_done().then_some(found)
     }
 }
