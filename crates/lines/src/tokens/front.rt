@@ -1,9 +1,9 @@
 // The token in front of what is left of a line.
-ghost use Rattle.std.specs.Prelude.{◌≡◌, ◌+◌, ◌≤◌, length};
+ghost use Rattle.std.specs.Prelude.{◌≡◌, length};
 ghost use Rattle.std.specs.Char.{is_ascii_digit};
 ghost use Rattle.std.specs.List.{take_while};
 ghost use Rattle.std.specs.Option.{option_map};
-ghost use Rattle.lines.specs.Tokens.{piece, token_in_front, taken_off, Placed, place_of, left_of};
+ghost use Rattle.lines.specs.Tokens.{piece, token_in_front, Placed, place_of, left_of};
 
 use crate::token::Token;
 use crate::tokens::Tokens;
