@@ -1,7 +1,6 @@
--- One write after another, and what is written pair by pair and item by item.
-use Rattle.std.proofs.Common.{◌≡◌, ℕ, ◌+◌, ◌-◌, ◌<◌, ◌≤◌, List, [], ◌++◌, length, get_or, take, drop, sym, refl, ap, ◌∙◌, subst, add-zero, arith}
-use Rattle.std.specs.List.{flat_map}
-use Rattle.std.proofs.lemmas.List.{append_assoc, take-append-drop, take_at, drop_at, drop-drop, length-append, length-take-le, length-drop, take_more, take_all, flat_map_more}
+-- One write after another, and what is written part by part.
+use Rattle.std.proofs.Common.{◌≡◌, ℕ, ◌+◌, ◌-◌, ◌≤◌, List, [], ◌++◌, length, take, drop, sym, refl, ap, ◌∙◌, subst, add-zero, arith}
+use Rattle.std.proofs.lemmas.List.{append_assoc, take-append-drop, take_at, drop_at, drop-drop, length-append, length-take-le, length-drop}
 use Rattle.record_format.specs.Buffers.{written, Wrote}
 
 module _ (b : List ℕ) (at : ℕ) (xs : List ℕ) (room : at + length xs ≤ length b) where
@@ -39,9 +38,6 @@ wrote_nothing b at = record {
 pub wrote_same : {b b' xs ys : List ℕ} {at end : ℕ} → xs ≡ ys → Wrote b at xs b' end → Wrote b at ys b' end
 wrote_same {b} {b'} {xs} {ys} {at} {end} e w = subst (λ (l : List ℕ). Wrote b at l b' end) e w
 
-pub wrote_moved : {b b1 b2 xs : List ℕ} {at m n : ℕ} → b2 ≡ b1 → n ≡ m → Wrote b at xs b1 m → Wrote b at xs b2 n
-wrote_moved p q w = record { after = p ∙ w.after; ends = q ∙ w.ends }
-
 pub then : {b b1 b2 : List ℕ} {at m r : ℕ} {xs ys : List ℕ} → at + length xs ≤ length b → Wrote b at xs b1 m → Wrote b1 m ys b2 r → Wrote b at (xs ++ ys) b2 r
 then {b} {b1} {b2} {at} {m} {r} {xs} {ys} h u v = record {
   after = v.after ∙ (λ i. written (u.after i) (u.ends i) ys) ∙ written_again b at xs h ys;
@@ -59,11 +55,21 @@ copied b at xs ys e =
 
 -- ---- one after the other
 
--- one more of a list whose bytes are written one after the other
-pub wrote_more : {X : Type 0} (f : X → List ℕ) (xs : List X) (i : ℕ) (d : X) {b b1 b2 : List ℕ} {at m r : ℕ} → i < length xs → at + length (flat_map f (take i xs)) ≤ length b → Wrote b at (flat_map f (take i xs)) b1 m → Wrote b1 m (f (get_or xs i d)) b2 r → Wrote b at (flat_map f (take (i + 1) xs)) b2 r
-wrote_more f xs i d h room u v =
-    let t = take_more xs i d h in
-    wrote_same (flat_map_more f [] (take i xs) (get_or xs i d) ∙ ap (flat_map f) (sym t)) (then room u v)
+-- some of all the bytes stand in the buffer from a place on, and the others are left to be written at the end
+pub record Writing (b : List ℕ) (at : ℕ) (all left b' : List ℕ) (end : ℕ) : Type 0 where
+  pub done : List ℕ
+  pub wrote : Wrote b at done b' end
+  pub whole : done ++ left ≡ all
 
-pub wrote_all : {X : Type 0} (f : X → List ℕ) (xs : List X) (i : ℕ) {b b1 : List ℕ} {at m : ℕ} → length xs ≤ i → Wrote b at (flat_map f (take i xs)) b1 m → Wrote b at (flat_map f xs) b1 m
-wrote_all f xs i h w = wrote_same (ap (flat_map f) (take_all i xs h)) w
+module _ {b all : List ℕ} {at : ℕ} where
+  pub writing_begins : {left : List ℕ} → left ≡ all → Writing b at all left b at
+  writing_begins e = record { done = []; wrote = wrote_nothing b at; whole = e }
+
+  pub room_for_next : {b1 rest : List ℕ} {m : ℕ} (xs left : List ℕ) → rest ≡ xs ++ left → at + length all ≤ length b → Writing b at all rest b1 m → m + length xs ≤ length b
+  room_for_next {b1} {rest} xs left e room w = omega (arith, room, w.wrote.ends, ap length w.whole, length-append w.done rest, ap length e, length-append xs left)
+
+  -- the next of them are written
+  pub writing_goes_on : {b1 b2 rest : List ℕ} {m n : ℕ} (xs left : List ℕ) → rest ≡ xs ++ left → at + length all ≤ length b → Writing b at all rest b1 m → Wrote b1 m xs b2 n → Writing b at all left b2 n
+  writing_goes_on {b1} {b2} {rest} xs left e room w v =
+      let fits : at + length w.done ≤ length b = omega (arith, room, ap length w.whole, length-append w.done rest) in
+      record { done = w.done ++ xs; wrote = then fits w.wrote v; whole = append_assoc w.done xs left ∙ ap (λ l. w.done ++ l) (sym e) ∙ w.whole }

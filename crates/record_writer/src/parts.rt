@@ -8,7 +8,9 @@ ghost use Rattle.record_format.specs.Meaning.{item_of};
 ghost use Rattle.record_format.specs.Buffers.{Wrote};
 
 use crate::bytes::put;
-use record_format::{COUNT_BYTES, ENTRY_BYTES, NumberedSet, NumberedSets, PAIR_BYTES, S_BYTES};
+use record_format::{
+    COUNT_BYTES, ENTRY_BYTES, NumberedSet, NumberedSets, PAIR_BYTES, S_BYTES, in_order,
+};
 use tickets::WriteSet;
 
 /// Writes the pairs of a write set.
@@ -17,11 +19,9 @@ fn put_pairs(buffer: &mut [u8], at: usize, set: &WriteSet) -> usize
     ensures bytes { Wrote buffer.old at (flat_map pair_bytes (pairs set.now)) buffer.new result }
 {
     let mut end = at;
-    for i in 0..set.len() {
-        if let Some(pair) = set.pair(i) {
-            let [a, b, c, d] = pair.value.to_be_bytes();
-            end = put(buffer, end, &[pair.object as u8, a, b, c, d]);
-        }
+    for pair in set.pairs() {
+        let [a, b, c, d] = pair.value.to_be_bytes();
+        end = put(buffer, end, &[pair.object as u8, a, b, c, d]);
     }
     end
 }
@@ -41,16 +41,13 @@ pub(crate) fn put_contents<R: NumberedSets>(buffer: &mut [u8], at: usize, run: &
     requires run_bound { first_body (length (R.NumberedSets.items run.now)) + length (bodies (R.NumberedSets.items run.now)) < 65536 }
     ensures bytes { Wrote buffer.old at (contents (first_body (length (R.NumberedSets.items run.now))) (R.NumberedSets.items run.now)) buffer.new result }
 {
-    let count = run.count();
     let mut end = at;
-    let mut offset = COUNT_BYTES + ENTRY_BYTES * count;
-    for i in 0..count {
-        if let Some(set) = run.item(i + 1) {
-            let pairs = set.set.len();
-            let [high, low] = (offset as u16).to_be_bytes();
-            end = put(buffer, end, &[set.home, pairs as u8, high, low]);
-            offset += S_BYTES + PAIR_BYTES * pairs;
-        }
+    let mut offset = COUNT_BYTES + ENTRY_BYTES * run.count();
+    for set in in_order(run) {
+        let pairs = set.set.len();
+        let [high, low] = (offset as u16).to_be_bytes();
+        end = put(buffer, end, &[set.home, pairs as u8, high, low]);
+        offset += S_BYTES + PAIR_BYTES * pairs;
     }
     end
 }
@@ -61,10 +58,8 @@ pub(crate) fn put_bodies<R: NumberedSets>(buffer: &mut [u8], at: usize, run: &R)
     ensures bytes { Wrote buffer.old at (bodies (R.NumberedSets.items run.now)) buffer.new result }
 {
     let mut end = at;
-    for i in 0..run.count() {
-        if let Some(set) = run.item(i + 1) {
-            end = put_body(buffer, end, &set);
-        }
+    for set in in_order(run) {
+        end = put_body(buffer, end, &set);
     }
     end
 }

@@ -8,7 +8,7 @@ ghost use Rattle.record_format.specs.Calls.{size_answer};
 
 use record_format::{
     COUNT_BYTES, ENTRY_BYTES, LAST_HOME, MOST_ITEMS, NumberedSet, NumberedSets, PAIR_BYTES,
-    RecordFault, S_BYTES,
+    RecordFault, S_BYTES, in_order,
 };
 use tickets::{WriteSet, top};
 
@@ -16,43 +16,31 @@ use tickets::{WriteSet, top};
 fn within_tops(set: &WriteSet) -> bool
     ensures answer { result ≡ within_tops (pairs set.now) }
 {
-    for i in 0..set.len() {
-        if let Some(pair) = set.pair(i) {
-            if pair.value > top(pair.object) {
-                return false;
-            }
-        }
-    }
-    true
+    set.pairs()
+        .iter()
+        .all(|pair| pair.value <= top(pair.object))
 }
 
 /// Whether a write set may stand at a number of a run.
 fn may_stand(set: &NumberedSet, n: usize) -> bool
     ensures answer { result ≡ fits n (item_of set.now) }
 {
-    let s = usize::from(set.s);
-    if set.home > LAST_HOME || s >= n {
-        return false;
-    }
-    within_tops(&set.set)
+    set.home <= LAST_HOME && usize::from(set.s) < n && within_tops(&set.set)
 }
 
 /// How long the record of the write sets is, where they are a run.
 pub(crate) fn size<R: NumberedSets>(run: &R) -> Result<usize, RecordFault>
     ensures answer { listed result ≡ size_answer (R.NumberedSets.items run.now) }
 {
-    let count = run.count();
-    if count > MOST_ITEMS {
+    if run.count() > MOST_ITEMS {
         return Err(RecordFault::NoRun { item: 0 });
     }
     let mut needed = COUNT_BYTES;
-    for i in 0..count {
-        if let Some(set) = run.item(i + 1) {
-            if !may_stand(&set, i + 1) {
-                return Err(RecordFault::NoRun { item: i + 1 });
-            }
-            needed += ENTRY_BYTES + S_BYTES + PAIR_BYTES * set.set.len();
+    for (set, n) in in_order(run).zip(1..) {
+        if !may_stand(&set, n) {
+            return Err(RecordFault::NoRun { item: n });
         }
+        needed += ENTRY_BYTES + S_BYTES + PAIR_BYTES * set.set.len();
     }
     Ok(needed)
 }

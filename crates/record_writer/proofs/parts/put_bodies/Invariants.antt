@@ -1,7 +1,7 @@
-use Rattle.std.proofs.Common.{take}
 use Rattle.record_format.specs.Written.{bodies}
-use Rattle.record_format.specs.Buffers.{Wrote}
+use Rattle.record_format.specs.Meaning.{left_of}
+use Rattle.record_format.proofs.Writing.{Writing}
 use Rattle.record_writer.proofs.parts.put_bodies.Given as goal
 
-abbrev pub invariant-loop-i : goal.invariant-loop-i
-invariant-loop-i g l = Wrote l.initial.buffer l.at (bodies (take l.i (g.R.NumberedSets.items l.run))) l.buffer l.end
+abbrev pub invariant-loop-set : goal.invariant-loop-set
+invariant-loop-set g l = Writing l.initial.buffer l.at (bodies (g.R.NumberedSets.items l.run)) (bodies (left_of g.R.NumberedSets.items l.set-iterator)) l.buffer l.end

@@ -1,38 +1,28 @@
-use Rattle.std.proofs.Common.{◌<◌, length, arith}
-use Rattle.tickets.specs.Meaning.{pairs, pair_of}
+use Rattle.std.proofs.Common.{◌+◌, ◌*◌, length, get_or, map, drop, refl, ap, ◌∙◌, arith}
+use Rattle.std.specs.List.{flat_map}
+use Rattle.tickets.specs.Meaning.{pair_of}
+use Rattle.tickets.specs.declared.pair.Pair.{Pair}
 use Rattle.record_format.specs.Written.{pair_bytes}
-use Rattle.record_format.proofs.Writing.{wrote_nothing, wrote_same, wrote_moved, wrote_more, wrote_all}
-use Rattle.record_format.proofs.Sets.{always_told, object_below, length-some_pairs, bytes_of_pair}
+use Rattle.record_format.proofs.Lengths.{length-pair_bytes}
+use Rattle.record_format.proofs.Sets.{pairs_left, bytes_of_pair}
+use Rattle.record_format.proofs.Writing.{wrote_same, writing_begins, writing_goes_on, room_for_next}
 use Rattle.record_writer.proofs.parts.put_pairs.Goals as goal
-use Rattle.record_writer.proofs.parts.put_pairs.Goals.{in-Some, in_default}
 
-pub loop-i-init : goal.loop-i-init
-loop-i-init c = wrote_nothing c.args.buffer.now c.args.at
-
-pub overflow_cast-pair : goal.overflow_cast-pair
-overflow_cast-pair c =
-    let w = c.args.set.now in
-    let h : c.loop-i.i < length (pairs w) = omega (arith, c.len-i-end.ensures.answer) in
-    omega (arith, object_below w c.loop-i.i (pair_of c.in-Some.pair) h c.in-Some.ensures.answer)
+pub loop-pair-init : goal.loop-pair-init
+loop-pair-init c = writing_begins refl
 
 pub put-end-requires : goal.put-end-requires
 put-end-requires c =
-    let ps = pairs c.args.set.now in
-    let h : c.loop-i.i < length ps = omega (arith, c.len-i-end.ensures.answer) in
-    omega (arith, c.loop-i.invariant.ends, length-some_pairs ps c.loop-i.i (omega arith), c.loop-i.auto.buffer, c.requires)
+    let ps = c.pairs-pair-items.result.now in
+    let all = length-pair_bytes (map pair_of ps) ∙ ap (λ qs. 5 * length qs) c.pairs-pair-items.ensures.answer in
+    let i = c.loop-pair.pair-index in
+    let p : Pair = get_or ps i (record { object = 0; value = 0 }) in
+    let left = flat_map pair_bytes (map pair_of (drop (i + 1) ps)) in
+    omega (arith, c.loop-pair.auto.buffer, room_for_next (pair_bytes (pair_of p)) left (pairs_left ps i _ c.loop-pair-test.true) (omega (arith, all, c.requires)) c.loop-pair.invariant)
 
-pub loop-i-preserved : goal.loop-i-preserved
-loop-i-preserved c =
-    let ps = pairs c.args.set.now in
-    let i = c.loop-i.i in
-    let h : i < length ps = omega (arith, c.len-i-end.ensures.answer) in
-    let long = length-some_pairs ps i (omega arith) in
-    elim c.match-pair.branch [
-      | in-Some w ↦
-          let bytes = bytes_of_pair ps i (pair_of w.in-Some.pair) w.to_be_bytes.result h w.in-Some.ensures.answer w.to_be_bytes.ensures in
-          wrote_moved w.buffer-is w.end-is (wrote_more pair_bytes ps i (0, 0) h (omega (arith, c.requires)) c.loop-i.invariant (wrote_same bytes w.put-end.ensures.bytes))
-      | in_default w ↦ absurd (always_told ps i h w.in_default.ensures.answer)
-    ]
-
-pub returns : goal.returns
-returns c = record { bytes = wrote_all pair_bytes (pairs c.args.set.now) c.loop-i.i (omega (arith, c.len-i-end.ensures.answer)) c.loop-i.invariant }
+pub loop-pair-preserved : goal.loop-pair-preserved
+loop-pair-preserved c =
+    let ps = c.pairs-pair-items.result.now in
+    let all = length-pair_bytes (map pair_of ps) ∙ ap (λ qs. 5 * length qs) c.pairs-pair-items.ensures.answer in
+    let bytes = bytes_of_pair _ c.to_be_bytes.result c.to_be_bytes.ensures in
+    writing_goes_on _ _ (pairs_left ps c.loop-pair.pair-index _ c.loop-pair-test.true) (omega (arith, all, c.requires)) c.loop-pair.invariant (wrote_same bytes c.put-end.ensures.bytes)

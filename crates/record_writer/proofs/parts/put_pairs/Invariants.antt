@@ -1,9 +1,10 @@
-use Rattle.std.proofs.Common.{take}
+use Rattle.std.proofs.Common.{drop, map}
 use Rattle.std.specs.List.{flat_map}
-use Rattle.tickets.specs.Meaning.{pairs}
+use Rattle.tickets.specs.Meaning.{pair_of}
 use Rattle.record_format.specs.Written.{pair_bytes}
-use Rattle.record_format.specs.Buffers.{Wrote}
+use Rattle.record_format.proofs.Writing.{Writing}
 use Rattle.record_writer.proofs.parts.put_pairs.Given as goal
 
-abbrev pub invariant-loop-i : goal.invariant-loop-i
-invariant-loop-i l = Wrote l.initial.buffer l.at (flat_map pair_bytes (take l.i (pairs l.set))) l.buffer l.end
+abbrev pub invariant-loop-pair : goal.invariant-loop-pair
+invariant-loop-pair l =
+    Writing l.initial.buffer l.at (flat_map pair_bytes (map pair_of l.pair-items)) (flat_map pair_bytes (map pair_of (drop l.pair-index l.pair-items))) l.buffer l.end

@@ -1,11 +1,6 @@
-use Rattle.std.proofs.Common.{◌≡◌, ◌+◌, ◌*◌, ◌≤◌, length, take, drop}
-use Rattle.record_format.specs.Items.{first_unfit}
-use Rattle.record_format.specs.Written.{bodies}
+use Rattle.record_format.specs.Meaning.{left_of}
+use Rattle.record_format.proofs.Sets.{Sized}
 use Rattle.record_writer.proofs.runs.size.Given as goal
 
-abbrev pub invariant-loop-i : goal.invariant-loop-i
-invariant-loop-i g l =
-    let its = g.R.NumberedSets.items l.run in
-    (first_unfit (l.i + 1) (drop l.i its) ≡ first_unfit 1 its)
-    × (l.needed ≡ 2 + 4 * l.i + length (bodies (take l.i its)))
-    × (l.needed ≤ 2 + 46 * l.i)
+abbrev pub invariant-loop-set : goal.invariant-loop-set
+invariant-loop-set g l = Sized (g.R.NumberedSets.items l.run) (left_of g.R.NumberedSets.items l.set-iterator.a) l.set-iterator.b.start l.needed

@@ -1,24 +1,15 @@
-use Rattle.std.proofs.Common.{sym, ◌∙◌, arith}
-use Rattle.tickets.specs.Meaning.{pairs, pair_of}
-use Rattle.record_format.proofs.Sets.{always_told, tops_next, tops_above, tops_end}
+use Rattle.std.proofs.Common.{rules, leb, ap, ◌∙◌}
+use borrow.Author.Tests.{tests}
+use Rattle.std.proofs.lemmas.Iterator.{YieldsList-from_slice}
+use Rattle.std.proofs.lemmas.Iterator.Search.{all_from_yields_List}
+use Rattle.tickets.specs.Boards.{top}
+use Rattle.tickets.specs.declared.pair.Pair.{Pair}
+use Rattle.record_format.specs.Items.{within_tops}
+use Rattle.record_format.proofs.Sets.{tops_of_each}
 use Rattle.record_writer.proofs.runs.within_tops.Goals as goal
-use Rattle.record_writer.proofs.runs.within_tops.Goals.{in-Some+else-pair-top, in_default}
-
-pub returns-then-pair-top : goal.returns-then-pair-top
-returns-then-pair-top c =
-    let ps = pairs c.args.set.now in
-    let above = tops_above ps c.loop-i.i (pair_of c.in-Some.pair) (omega (arith, c.len-i-end.ensures.answer)) c.in-Some.ensures.answer c.top.result c.top.ensures.answer c.if-pair-top.true in
-    record { answer = sym above ∙ c.loop-i.invariant }
-
-pub loop-i-preserved : goal.loop-i-preserved
-loop-i-preserved c =
-    let ps = pairs c.args.set.now in
-    elim c.match-pair.branch [
-      | in-Some+else-pair-top w ↦
-          tops_next ps c.loop-i.i (pair_of w.in-Some.pair) (omega (arith, c.len-i-end.ensures.answer)) w.in-Some.ensures.answer w.top.result w.top.ensures.answer w.if-pair-top.false
-          ∙ c.loop-i.invariant
-      | in_default w ↦ absurd (always_told ps c.loop-i.i (omega (arith, c.len-i-end.ensures.answer)) w.in_default.ensures.answer)
-    ]
 
 pub returns : goal.returns
-returns c = record { answer = sym (tops_end (pairs c.args.set.now) c.loop-i.i (omega (arith, c.len-i-end.ensures.answer))) ∙ c.loop-i.invariant }
+returns c =
+    let ps = c.pairs.result.now in
+    let all = all_from_yields_List (λ (p : Pair). leb p.value (top p.object)) _ _ c.all.result c.all.ensures.ran (YieldsList-from_slice ps c.iter.ensures.rest) (λ x b q k. search (rules, tests)) in
+    record { answer = all ∙ tops_of_each ps ∙ ap within_tops c.pairs.ensures.answer }
