@@ -1,13 +1,16 @@
--- The versions that the chains hold: the one that a link leads to, and a new one in front of a chain. Assumes nothing.
-use Rattle.std.proofs.Common.{◌≡◌, ℕ, zero, suc, ◌+◌, ◌<◌, true, cond, eqb, List, [], ◌∷◌, ◌++◌, reverse, length, get_or, set, replicate, Some, None, vec_items, Option, sym, refl, ap, ◌∙◌, subst, ⊎_elim, arith}
-use Rattle.std.proofs.lemmas.List.{reverse-append, reverse-reverse, length-reverse, get_or-set_same, get_or-set_other}
-use Rattle.std.proofs.lemmas.Bool.{lt-ltb, ltb-true, eq-eqb, ne_eqb, cond-true, cond-false, cases_eq}
+-- The versions that the chains hold: reading them, and a new one in front of a chain. Assumes nothing.
+use Rattle.std.proofs.Common.{◌≡◌, ℕ, zero, suc, ◌+◌, ◌<◌, Bool, true, false, cond, eqb, leb, List, [], ◌∷◌, ◌++◌, reverse, map, length, get_or, set, replicate, Some, None, vec_items, Option, sym, refl, ap, ◌∙◌, subst, ⊎_elim, arith}
+use Rattle.std.specs.List.{find}
+use Rattle.std.specs.Option.{unwrap_or, option_map}
+use Rattle.std.proofs.lemmas.List.{reverse-append, length-reverse, get_or-set_same, get_or-set_other}
+use Rattle.std.proofs.lemmas.Bool.{lt-ltb, eq-eqb, ne_eqb, cond-true, cond-false, cases_eq}
 use Rattle.versions.specs.declared.version.Version.{Version}
 use Rattle.versions.specs.declared.chains.Chains.{Chains}
-use Rattle.versions.specs.Histories.{with_version}
-use Rattle.versions.specs.Links.{before, falling, dated, chain, height}
-use Rattle.versions.specs.Chained.{versions_of, size_of}
-use Rattle.versions.proofs.Links.{Heads, heads_at, before_more, falling_more, chain_below, chain_top, height_less}
+use Rattle.versions.specs.Histories.{first, seen, with_version}
+use Rattle.versions.specs.Links.{before, falling, dated, chain}
+use Rattle.versions.specs.Chained.{versions_of, size_of, linked_from}
+use Rattle.versions.proofs.Links.{before_more, falling_more, chain_below, chain_top, chain_is}
+use Rattle.versions.proofs.Histories.{seen_first}
 
 -- where no object has a link
 pub no_link : (n j : ℕ) → ◌≡◌ {A = Option ℕ} (get_or (replicate n None) j None) None
@@ -15,26 +18,29 @@ no_link zero j = refl
 no_link (suc n) zero = refl
 no_link (suc n) (suc j) = no_link n j
 
--- ---- the version that a link leads to
+-- ---- reading an object's versions
 
--- it heads the chain of the link, and its own link leads further back
-pub record Leads (s : Chains) (x : ℕ) (link : Option ℕ) (v : Version) : Type 0 where
-  pub chained : chain x (reverse (vec_items s.pool)) link ≡ dated v ∷ chain x (reverse (vec_items s.pool)) v.older
-  pub inside : before v.older (size_of s) ≡ true
-  pub back : height v.older < height link
+-- they are those of the pool, and the value at the start behind them
+pub read_as : (s : Chains) (j : ℕ) (vs : List Version) → linked_from s j ≡ vs → versions_of s j ≡ map dated vs ++ first (get_or s.start j 0)
+read_as s j vs e = chain_is (get_or s.start j 0) (reverse (vec_items s.pool)) (get_or s.newest j None) ∙ ap (λ l. map dated l ++ first (get_or s.start j 0)) e
 
-pub leads : (s : Chains) (x : ℕ) (link : Option ℕ) (i : ℕ) (v : Version) → link ≡ Some i → before link (size_of s) ≡ true → v ≡ get_or (vec_items s.pool) i v → Leads s x link v
-leads s x link i v e b at =
-    let items = vec_items s.pool in
-    let l : i < size_of s = ltb-true i (size_of s) (ap (λ l. before l (size_of s)) (sym e) ∙ b) in
-    let h : Heads x (reverse items) i v =
-    subst (Heads x (reverse items) i) (ap (λ l. get_or l i v) (reverse-reverse items) ∙ sym at)
-    (heads_at x (reverse items) i v s.falls (omega (arith, length-reverse items, s.pool.ok.0))) in
-    record {
-      chained = ap (chain x (reverse items)) e ∙ h.chained;
-      inside = before_more v.older i (size_of s) (omega (arith, l)) h.links;
-      back = subst (λ l. height v.older < height l) (sym e) (height_less v.older i h.links);
-    }
+-- what is seen is the first of them that is not past the count, else the value at the start
+value_or : ℕ → Option Version → ℕ
+value_or x o = unwrap_or (option_map (λ v. v.value) o) x
+
+seen_or_older : (x y : ℕ) (v : Version) (o : Option Version) (b : Bool) → y ≡ value_or x o → cond b v.value y ≡ value_or x (cond b (Some v) o)
+unfolding value_or
+seen_or_older x y v o true e = refl
+seen_or_older x y v o false e = e
+
+seen_is : (x c : ℕ) (vs : List Version) → seen (map dated vs ++ first x) c ≡ value_or x (find (λ v. leb v.commit c) vs)
+unfolding seen value_or
+seen_is x c [] = seen_first x c
+seen_is x c (v ∷ vs) = seen_or_older x (seen (map dated vs ++ first x) c) v (find (λ v. leb v.commit c) vs) (leb v.commit c) (seen_is x c vs)
+
+pub seen_as : (s : Chains) (j c : ℕ) → seen (versions_of s j) c ≡ unwrap_or (option_map (λ v. v.value) (find (λ v. leb v.commit c) (linked_from s j))) (get_or s.start j 0)
+unfolding value_or
+seen_as s j c = ap (λ vs. seen vs c) (read_as s j (linked_from s j) refl) ∙ seen_is (get_or s.start j 0) c (linked_from s j)
 
 -- ---- a new version in front of a chain
 

@@ -1,20 +1,25 @@
 -- The pairs that own writes hold: those below their count. Assumes nothing.
-use Rattle.std.proofs.Common.{◌≡◌, ℕ, ◌+◌, ◌-◌, ◌<◌, ◌≤◌, true, false, ltb, length, get_or, take, drop, set, is_some, Some, None, Ok, Err, Option, sym, ap, ◌∙◌, subst, ⊎_elim, arith}
+use Rattle.std.proofs.Common.{◌≡◌, ℕ, ◌+◌, ◌<◌, ◌≤◌, true, false, cond, eqb, ltb, length, get_or, take, set, is_some, Some, None, Ok, Err, Option, sym, ap, ◌∙◌, subst, ⊎_elim, arith}
+use Rattle.std.specs.List.{position}
+use Rattle.std.specs.Option.{MatchOption}
 use lib.Seq.{take-set-lt}
-use Rattle.std.proofs.lemmas.List.{length-take-le, get_or-take, take_more_set, at_drop_more, at_drop_all}
-use Rattle.std.proofs.lemmas.Bool.{lt-ltb, le-ltb, cases_lt}
+use Rattle.std.proofs.lemmas.List.{length-take-le, get_or-take, take_more_set}
+use Rattle.std.proofs.lemmas.List.Quantifiers.{position-Some}
+use Rattle.std.proofs.lemmas.Bool.{eqb-true, lt-ltb, le-ltb, cases_lt}
 use Rattle.stores.specs.declared.fault.StoreFault.TheVariants.{NinthObject}
-use Rattle.stores.specs.Model.{with_write, first_from}
+use Rattle.stores.specs.Model.{with_write}
 use Rattle.tickets.specs.declared.pair.Pair.{Pair}
 use Rattle.versions.specs.declared.own_writes.OwnWrites.{OwnWrites}
-use Rattle.versions.specs.Pairs.{own_in, no_pair, lower_from}
+use Rattle.versions.specs.Pairs.{own_in, no_pair}
 use Rattle.versions.specs.Writes.{own_of, count_of, set_own, held}
-use Rattle.versions.proofs.Pairs.{Wrote, headed_at, none_past, own_head, own_at, write_new, write_over}
+use Rattle.versions.proofs.Pairs.{Wrote, none_past, own_nowhere, own_at, write_new, write_over}
 use Rattle.versions.proofs.Counts.{count_is}
-use Rattle.versions.proofs.Lowest.{first_more, first_none}
 
 never : (o : Option ℕ) (v : ℕ) → o ≡ Some v → o ≡ None → ⊥
 never o v e n = let z : ◌≡◌ {A = ℕ} 0 1 = cc in omega arith
+
+not_inside : (i n : ℕ) → ◌≡◌ {A = Option ℕ} None (cond (ltb i n) (Some i) None) → n ≤ i
+not_inside i n e = ⊎_elim (λ l. let b : ltb i n ≡ true = lt-ltb i n l in let z : ◌≡◌ {A = Option ℕ} None (Some i) = rw b at e in cc) (λ l. l) (cases_lt i n)
 
 module _ (w : OwnWrites) where
   pub held_length : length (held w) ≡ w.count
@@ -40,22 +45,14 @@ module _ (w : OwnWrites) where
   held_own i j h e =
       ap (own_in (held w)) (sym (ap (λ (p : Pair). p.object) (held_at i h) ∙ e)) ∙ own_at (held w) i w.once (omega (arith, held_length)) ∙ ap (λ (p : Pair). Some p.value) (held_at i h)
 
-  -- the lowest write from object j on, among the pairs from index i on and among those past it
-  pub held_lowest : (i j : ℕ) → i < w.count
-      → first_from (own_in (drop i (held w))) j (128 - j) ≡ lower_from j (first_from (own_in (drop (i + 1) (held w))) j (128 - j)) (get_or w.pairs i no_pair)
-  held_lowest i j h =
-      let in' : i < length (held w) = omega (arith, held_length) in
-      let p = get_or (held w) i no_pair in
-      let rest = drop (i + 1) (held w) in
-      let d = headed_at (held w) w.once i in' in
-      at_drop_more (λ l. first_from (own_in l) j (128 - j)) (held w) i no_pair in'
-      ∙ ap (λ own. first_from own j (128 - j)) (own_head p rest)
-      ∙ first_more (own_in rest) p j d.alone d.below
-      ∙ ap (lower_from j (first_from (own_in rest) j (128 - j))) (held_at i h)
-
-  pub held_no_lowest : (j : ℕ) → first_from (own_in (drop w.count (held w))) j (128 - j) ≡ None
-  unfolding own_in
-  held_no_lowest j = at_drop_all (λ l. first_from (own_in l) j (128 - j)) (held w) w.count (omega (arith, held_length)) ∙ first_none j (128 - j)
+  -- where the pair of an object stands
+  pub held_position : (j : ℕ) (r : Option ℕ) → r ≡ position (λ p. eqb p.object j) (held w)
+      → MatchOption r (own_of w j ≡ None) (λ i. (i < w.count) × ((get_or w.pairs i no_pair).object ≡ j))
+  held_position j None e = own_nowhere (held w) j (not_inside _ _ e)
+  held_position j (Some i) e =
+      let p = position-Some (λ p. eqb p.object j) (held w) i no_pair (sym e) in
+      let h : i < w.count = omega (arith, held_length, p.0) in
+      (h, ap (λ (p : Pair). p.object) (sym (held_at i h)) ∙ eqb-true _ _ p.1)
 
   module _ (q : Pair) where
     -- a pair put over the one at index i

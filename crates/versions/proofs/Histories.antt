@@ -1,8 +1,8 @@
 -- What the versions of the objects say, and what a commit adds. Assumes nothing.
-use Rattle.std.proofs.Common.{◌≡◌, ℕ, ◌+◌, ◌<◌, ◌≤◌, Bool, true, false, ◌||◌, ltb, List, [], ◌∷◌, length, get_or, is_some, Some, None, Option, sym, refl, ap, ◌∙◌, arith}
+use Rattle.std.proofs.Common.{◌≡◌, ℕ, ◌+◌, ◌<◌, ◌≤◌, Bool, true, false, cond, ◌||◌, ltb, List, [], ◌∷◌, length, get_or, is_some, Some, None, Option, sym, refl, ap, ◌∙◌, ⊎_elim, arith}
 use Rattle.std.proofs.lemmas.List.FromFn.{length-map-range_with_len, get_or-map-range_with_len}
 use Rattle.std.proofs.lemmas.List.{ext_get_or}
-use Rattle.std.proofs.lemmas.Bool.{le-leb, lt-leb, lt-ltb, cond-true, cond-false, or_right}
+use Rattle.std.proofs.lemmas.Bool.{cases_lt, le-leb, lt-leb, lt-ltb, le-ltb, cond-true, cond-false, or_right}
 use Rattle.stores.specs.Model.{or_else, played}
 use Rattle.stores.proofs.Steps.{length-played, get_or-played}
 use Rattle.versions.specs.Histories.{Dated, current, newest, seen, board_at, written_since, first, started, newer, after_commit}
@@ -34,6 +34,16 @@ length-board_at versions c = length-map-range_with_len (λ j. seen (versions j) 
 pub get_or-board_at : (versions : ℕ → List Dated) (c j : ℕ) → j < 128 → get_or (board_at versions c) j 0 ≡ seen (versions j) c
 unfolding board_at
 get_or-board_at versions c j h = get_or-map-range_with_len (λ j. seen (versions j) c) 0 128 j j 0 h (omega arith)
+
+-- the value of an object after a commit, and now
+pub value_after : (versions : ℕ → List Dated) (c j : ℕ) → cond (ltb j 128) (Some (seen (versions j) c)) None ≡ cond (ltb j 128) (Some (get_or (board_at versions c) j 0)) None
+value_after versions c j =
+    ⊎_elim
+    (λ l. ap (λ v. cond (ltb j 128) (Some v) None) (sym (get_or-board_at versions c j l)))
+    (λ l. cond-false (ltb j 128) _ _ (le-ltb j 128 l) ∙ sym (cond-false (ltb j 128) _ _ (le-ltb j 128 l))) (cases_lt j 128)
+
+pub value_now : (versions : ℕ → List Dated) (c j : ℕ) → newest (versions j) ≤ c → cond (ltb j 128) (Some (current (versions j))) None ≡ cond (ltb j 128) (Some (get_or (board_at versions c) j 0)) None
+value_now versions c j l = ap (λ v. cond (ltb j 128) (Some v) None) (sym (seen_current (versions j) c l)) ∙ value_after versions c j
 
 -- a board with the same 128 values
 pub board_is : (versions : ℕ → List Dated) (c : ℕ) (board : List ℕ) → length board ≡ 128 → ((j : ℕ) → j < 128 → get_or board j 0 ≡ seen (versions j) c) → board_at versions c ≡ board

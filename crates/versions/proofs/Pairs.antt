@@ -1,7 +1,9 @@
 -- Own writes as pairs: one pair is looked at, put in or put over. Assumes nothing.
-use Rattle.std.proofs.Common.{◌≡◌, ℕ, zero, suc, ◌+◌, ◌<◌, ◌≤◌, Bool, true, false, cond, not, eqb, List, [], ◌∷◌, ◌++◌, length, get_or, drop, set, is_some, Some, None, Option, sym, refl, ap, ◌∙◌, arith}
-use Rattle.std.proofs.lemmas.List.{at_drop_more, at_drop_all}
-use Rattle.std.proofs.lemmas.Bool.{ltb-true, lt-ltb, eq-eqb, ne_eqb, eqb-false, cond-false, and_parts, and_from}
+use Rattle.std.proofs.Common.{◌≡◌, ℕ, zero, suc, ◌+◌, ◌<◌, ◌≤◌, Bool, true, false, cond, not, eqb, List, [], ◌∷◌, ◌++◌, length, get_or, drop, set, is_some, Some, None, Option, sym, refl, ap, ◌∙◌, ⊎_elim, arith}
+use Rattle.std.specs.List.{find, position_or_len}
+use Rattle.std.specs.Option.{option_map}
+use Rattle.std.proofs.lemmas.List.{at_drop_more}
+use Rattle.std.proofs.lemmas.Bool.{ltb-true, lt-ltb, eq-eqb, ne_eqb, eqb-false, cases_eq, and_parts, and_from}
 use Rattle.std.proofs.lemmas.Bool.Decides.{nat_tests}
 use Rattle.stores.specs.Model.{with_write}
 use Rattle.tickets.specs.declared.pair.Pair.{Pair}
@@ -47,10 +49,6 @@ none_past (p ∷ ps) e j h =
     let n : eqb j p.object ≡ false = ne_eqb j p.object (λ q. omega (arith, d.below)) in
     rw n (none_past ps d.rest j h)
 
-pub own_head : (p : Pair) (ps : List Pair) → own_in (p ∷ ps) ≡ with_write (own_in ps) p.object p.value
-unfolding own_in
-own_head p ps = refl
-
 apart : (own : ℕ → Option ℕ) (j k v : ℕ) → own j ≡ Some v → own k ≡ None → j ≡ k → ⊥
 apart own j k v e n q = let f : own j ≡ own k = ap own q in let z : ◌≡◌ {A = ℕ} 0 1 = cc in omega arith
 
@@ -69,16 +67,21 @@ neither : (b : Bool) (v : ℕ) (o : Option ℕ) → cond b (Some v) o ≡ None �
 neither true v o e = let z : ◌≡◌ {A = ℕ} 0 1 = cc in absurd (omega arith)
 neither false v o e = (refl, e)
 
--- the step of a loop that looks for an object, and its end
-pub own_skip : (ps : List Pair) (i j : ℕ) → i < length ps → ((get_or ps i no_pair).object ≡ j → ⊥) → own_in (drop (i + 1) ps) j ≡ own_in (drop i ps) j
+-- looking for the pair of an object
+pub own_found : (ps : List Pair) (j : ℕ) → own_in ps j ≡ option_map (λ p. p.value) (find (λ p. eqb p.object j) ps)
 unfolding own_in
-own_skip ps i j h ne =
-    let n : eqb j (get_or ps i no_pair).object ≡ false = ne_eqb _ _ (λ q. ne (sym q)) in
-    sym (at_drop_more (λ l. own_in l j) ps i no_pair h ∙ cond-false _ _ _ n)
+own_found [] j = refl
+own_found (p ∷ ps) j = let e = own_found ps j in grind (arith, nat_tests)
 
-pub own_end : (ps : List Pair) (i j : ℕ) → length ps ≤ i → own_in (drop i ps) j ≡ None
+pub own_nowhere : (ps : List Pair) (j : ℕ) → length ps ≤ position_or_len (λ p. eqb p.object j) ps → own_in ps j ≡ None
 unfolding own_in
-own_end ps i j h = at_drop_all (λ l. own_in l j) ps i h
+own_nowhere [] j h = refl
+own_nowhere (p ∷ ps) j h =
+    ⊎_elim (λ q. let b : eqb p.object j ≡ true = eq-eqb _ _ q in absurd (omega (arith, rw b at h)))
+    (λ ne.
+    let b : eqb p.object j ≡ false = ne_eqb _ _ ne in
+    let n : eqb j p.object ≡ false = ne_eqb _ _ (λ q. ne (sym q)) in
+    rw n (own_nowhere ps j (omega (arith, rw b at h)))) (cases_eq p.object j)
 
 -- pairs that have come from others by writing one
 pub record Wrote (ps : List Pair) (q : Pair) (new : List Pair) : Type 0 where

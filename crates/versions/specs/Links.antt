@@ -17,6 +17,12 @@ falling (v ∷ pool) = before v.older (length pool) && falling pool
 abbrev pub dated : Version → Dated
 dated v = record { commit = v.commit; value = v.value }
 
+-- the versions of the pool that a link leads to, newest first
+unfoldable pub linked : List Version → Option ℕ → List Version
+linked [] link = []
+linked (v ∷ pool) None = []
+linked (v ∷ pool) (Some i) = cond (i == length pool) (v ∷ linked pool v.older) (linked pool (Some i))
+
 -- the versions that a link leads to, newest first; the last is x, the value at the start
 unfoldable pub chain : ℕ → List Version → Option ℕ → List Dated
 chain x [] link = first x

@@ -1,5 +1,5 @@
 -- Own writes as a list of pairs.
-use Rattle.std.specs.Prelude.{ℕ, Bool, true, cond, not, ◌&&◌, List, [], ◌∷◌, map, is_some, Some, None, Option, nat_lt}
+use Rattle.std.specs.Prelude.{ℕ, Bool, true, not, ◌&&◌, List, [], ◌∷◌, map, is_some, Option, nat_lt}
 use Rattle.tickets.specs.WriteSets.{lookup}
 use Rattle.tickets.specs.Meaning.{pair_of}
 use Rattle.tickets.specs.declared.pair.Pair.{Pair}
@@ -16,12 +16,3 @@ each_once (p ∷ ps) = nat_lt p.object 128 && (not (is_some (own_in ps p.object)
 -- stands for what lies past the end of the pairs
 abbrev pub no_pair : Pair
 no_pair = record { object = 0; value = 0 }
-
--- the lower of a pair found before, if any, and another pair
-abbrev pub lower_of : Option Pair → Pair → Option Pair
-lower_of None p = Some p
-lower_of (Some q) p = cond (nat_lt q.object p.object) (Some q) (Some p)
-
--- the lower of the two, where the other pair lies at object j or past it
-abbrev pub lower_from : ℕ → Option Pair → Pair → Option Pair
-lower_from j found p = cond (nat_lt p.object j) found (lower_of found p)

@@ -10,6 +10,7 @@ mod methods;
 const MOST_VERSIONS: usize = 2048;
 
 // Every link leads to a version that came into the pool before; the chain's end is the value at the start.
+// The links are indices into one pool, and no boxes: all memory is reserved before the board opens, so that a commit cannot fail.
 #[derive(Drop)]
 pub struct Chains {
     start: [u32; 128],

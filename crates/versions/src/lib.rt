@@ -5,6 +5,7 @@ mod chains;
 pub mod history;
 pub mod own_writes;
 mod version;
+mod walk;
 
 pub use history::History;
 pub use own_writes::OwnWrites;

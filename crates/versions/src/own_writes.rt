@@ -6,7 +6,7 @@ use tickets::Pair;
 
 mod methods;
 
-// The pairs past the count are of no account.
+// The pairs past the count are of no account. An array with a count, and no `ArrayVec`: own writes are `Copy`, and it is not.
 #[derive(Clone, Copy)]
 pub struct OwnWrites {
     pairs: [Pair; 8],

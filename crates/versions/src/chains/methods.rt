@@ -1,10 +1,11 @@
 // Reading a chain, and putting a version in front of it.
-ghost use Rattle.std.specs.Prelude.{◌≡◌, ◌+◌, ◌<◌, IfOk};
+ghost use Rattle.std.specs.Prelude.{◌≡◌, ◌+◌, ◌<◌, cond, Some, None, IfOk, nat_lt};
 ghost use Rattle.versions.specs.Histories.{started, seen, current, newest, with_version};
-ghost use Rattle.versions.specs.Chained.{versions_of, size_of};
+ghost use Rattle.versions.specs.Chained.{versions_of, size_of, linked_from, versions_left};
 
 use crate::chains::{Chains, MOST_VERSIONS};
 use crate::version::Version;
+use crate::walk::Walk;
 use std::alloc::{AllocError, Global};
 
 impl Chains {
@@ -19,36 +20,47 @@ impl Chains {
         })
     }
 
-    // The newest version of an object; from before the first commit, its value at the start.
-    pub fn newest(&self, object: usize) -> Version
-        requires { object < 128 }
-        ensures commit { result.commit ≡ newest (versions_of self.now object) }
-        ensures value { result.value ≡ current (versions_of self.now object) }
+    // The versions of an object that came from commits, from the newest back.
+    pub fn versions(&self, object: usize) -> Walk<'_>
+        ensures { versions_left result ≡ linked_from self.now object }
     {
-        match &self.newest[object] {
-            Some(index) => self.pool[*index],
-            None => Version {
-                commit: 0,
-                value: self.start[object],
-                older: None,
-            },
+        Walk {
+            pool: &self.pool,
+            next: self.newest.get(object).copied().flatten(),
         }
     }
 
-    // The value of the newest version that came from the commit of this count or from one before it.
-    pub fn seen(&self, object: usize, count: u32) -> u32
-        requires { object < 128 }
-        ensures { result ≡ seen (versions_of self.now object) count }
+    // The commit that the value of an object came from; 0 before the first.
+    pub fn commit(&self, object: usize) -> u32
+        ensures { result ≡ newest (versions_of self.now object) }
     {
-        let mut link = self.newest[object];
-        while let Some(index) = link {
-            let version = self.pool[index];
-            if version.commit <= count {
-                return version.value;
-            }
-            link = version.older;
-        }
-        self.start[object]
+        self.versions(object)
+            .next()
+            .map_or(0, |version| version.commit)
+    }
+
+    // The value of an object; none where there is no such object.
+    pub fn value(&self, object: usize) -> Option<u32>
+        ensures { result ≡ cond (nat_lt object 128) (Some (current (versions_of self.now object))) None }
+    {
+        let start = self.start.get(object)?;
+        Some(
+            self.versions(object)
+                .next()
+                .map_or(*start, |version| version.value),
+        )
+    }
+
+    // The value that came from the commit of this count, or from the last one before it that wrote; none where there is no such object.
+    pub fn seen(&self, object: usize, count: u32) -> Option<u32>
+        ensures { result ≡ cond (nat_lt object 128) (Some (seen (versions_of self.now object) count)) None }
+    {
+        let start = self.start.get(object)?;
+        Some(
+            self.versions(object)
+                .find(|version| version.commit <= count)
+                .map_or(*start, |version| version.value),
+        )
     }
 
     // Puts a version in front of an object's chain.

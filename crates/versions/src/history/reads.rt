@@ -5,7 +5,6 @@ ghost use Rattle.versions.specs.Meaning.{history_of, value_in, clash_since};
 
 use crate::history::History;
 use crate::own_writes::OwnWrites;
-use tickets::OBJECTS;
 
 impl History {
     /// How many commits wrote.
@@ -19,32 +18,22 @@ impl History {
     pub fn value(&self, object: usize) -> Option<u32>
         ensures answer { result ≡ value_in (history_of self.now) (history_of self.now).commits object }
     {
-        if object >= OBJECTS {
-            return None;
-        }
-        Some(self.chains.newest(object).value)
+        self.chains.value(object)
     }
 
     /// The value of an object after the commit of this count; none where there is no such object.
     pub fn value_at(&self, object: usize, count: u32) -> Option<u32>
         ensures answer { result ≡ value_in (history_of self.now) count object }
     {
-        if object >= OBJECTS {
-            return None;
-        }
-        Some(self.chains.seen(object, count))
+        self.chains.seen(object, count)
     }
 
     /// Whether a commit after this count wrote an object of these writes.
     pub fn overtakes(&self, own: &OwnWrites, count: u32) -> bool
         ensures answer { result ≡ clash_since (history_of self.now) count (own_of own.now) }
     {
-        let pairs = own.pairs();
-        for pair in pairs {
-            if self.chains.newest(pair.object).commit > count {
-                return true;
-            }
-        }
-        false
+        own.pairs()
+            .iter()
+            .any(|pair| self.chains.commit(pair.object) > count)
     }
 }

@@ -1,7 +1,7 @@
 // Finding, setting, counting and telling own writes.
 ghost use Rattle.std.specs.Prelude.{◌≡◌, ◌-◌, ◌<◌, ◌≤◌, true, length, Some, None, Ok, Err, MatchOption, slice_index_or};
 ghost use Rattle.stores.specs.Model.{no_writes, first_from, done};
-ghost use Rattle.versions.specs.Pairs.{each_once, no_pair, lower_from};
+ghost use Rattle.versions.specs.Pairs.{each_once, no_pair};
 ghost use Rattle.versions.specs.Writes.{own_of, held, count_of, set_own, own_left};
 
 use crate::own_writes::OwnWrites;
@@ -35,22 +35,17 @@ impl OwnWrites {
     fn position(&self, object: usize) -> Option<usize>
         ensures { MatchOption result (own_of self.now object ≡ None) (λ i. (i < self.now.count) × ((slice_index_or self.now.pairs i no_pair).object ≡ object)) }
     {
-        for i in 0..self.count {
-            if self.pairs[i].object == object {
-                return Some(i);
-            }
-        }
-        None
+        self.pairs().iter().position(|pair| pair.object == object)
     }
 
     /// The value written to an object, if any.
     pub fn get(&self, object: usize) -> Option<u32>
         ensures answer { result ≡ own_of self.now object }
     {
-        match self.position(object) {
-            Some(i) => Some(self.pairs[i].value),
-            None => None,
-        }
+        self.pairs()
+            .iter()
+            .find(|pair| pair.object == object)
+            .map(|pair| pair.value)
     }
 
     /// Sets the write to an object, over an earlier one; a ninth object is refused.
@@ -87,23 +82,10 @@ impl OwnWrites {
         ensures answer { result ≡ first_from (own_of self.now) object (128 - object) }
     {
         // The pairs stand in no order.
-        let mut lowest = None;
-        for i in (0..self.count).rev() {
-            lowest = lower(lowest, self.pairs[i], object);
-        }
-        lowest
-    }
-}
-
-// The lower of a pair found before and another one, which counts from an object on.
-fn lower(found: Option<Pair>, pair: Pair, object: usize) -> Option<Pair>
-    ensures { result ≡ lower_from object found pair }
-{
-    if pair.object < object {
-        return found;
-    }
-    match found {
-        Some(low) if low.object < pair.object => found,
-        _ => Some(pair),
+        self.pairs()
+            .iter()
+            .copied()
+            .filter(|pair| pair.object >= object)
+            .min_by_key(|pair| pair.object)
     }
 }

@@ -1,32 +1,22 @@
-use Rattle.std.proofs.Common.{reverse, get_or, vec_items, sym, ap, ◌∙◌}
-use Rattle.versions.specs.Histories.{seen}
-use Rattle.versions.specs.Links.{chain}
-use Rattle.versions.proofs.Links.{chain_none}
-use Rattle.versions.proofs.Histories.{seen_head, seen_older, seen_first}
-use Rattle.versions.proofs.Chained.{leads}
+use Rattle.std.proofs.Common.{◌≡◌, ◌<◌, leb, Some, get_or, sym, ap, ◌∙◌, rules}
+use borrow.Author.Tests.{tests}
+use Rattle.std.specs.List.{find}
+use Rattle.std.specs.Option.{unwrap_or, option_map}
+use Rattle.std.proofs.lemmas.Bool.{cond_below}
+use Rattle.std.proofs.lemmas.Iterator.Consumers.{YieldsList-from_first}
+use Rattle.std.proofs.lemmas.Iterator.Search.{find_from_yields_List}
+use Rattle.versions.specs.Chained.{linked_from, versions_left}
+use Rattle.versions.proofs.Chained.{seen_as}
 use Rattle.versions.proofs.chains.Chains.seen.Goals as goal
-
-pub returns-then-version-count : goal.returns-then-version-count
-returns-then-version-count c =
-    let s = c.args.self.now in
-    let inv = c.loop-link.invariant in
-    let to = leads s (get_or s.start c.args.object 0) c.loop-link.link c.in-Some.index c.index-version.result.now c.in-Some.is inv.0 c.index-version.ensures in
-    sym (ap (λ h. seen h c.args.count) to.chained ∙ seen_head _ _ c.args.count c.if-version-count.true) ∙ inv.1
-
-pub loop-link-smaller : goal.loop-link-smaller
-loop-link-smaller c =
-    (leads c.args.self.now 0 c.loop-link.link c.in-Some.index c.index-version.result.now c.in-Some.is c.loop-link.invariant.0 c.index-version.ensures).back
-
-pub loop-link-preserved : goal.loop-link-preserved
-loop-link-preserved c =
-    let s = c.args.self.now in
-    let inv = c.loop-link.invariant in
-    let to = leads s (get_or s.start c.args.object 0) c.loop-link.link c.in-Some.index c.index-version.result.now c.in-Some.is inv.0 c.index-version.ensures in
-    (to.inside, sym (ap (λ h. seen h c.args.count) to.chained ∙ seen_older _ _ c.args.count c.if-version-count.false) ∙ inv.1)
 
 pub returns : goal.returns
 returns c =
     let s = c.args.self.now in
-    let x = get_or s.start c.args.object 0 in
-    let pool = reverse (vec_items s.pool) in
-    sym (ap (λ l. seen (chain x pool l) c.args.count) c.in_default.is ∙ ap (λ h. seen h c.args.count) (chain_none x pool) ∙ seen_first x c.args.count) ∙ c.loop-link.invariant.1
+    let j = c.args.object in
+    let n = c.args.count in
+    let x = get_or s.start j 0 in
+    let found : option_map (λ v. v.now) c.find.result ≡ find (λ v. leb v.commit n) (linked_from s j) =
+    find_from_yields_List _ c.find.new.self _ c.find.result c.find.ensures.ran (YieldsList-from_first (λ v. v.now) versions_left (linked_from s j) c.versions.ensures) (λ x b q k. search (rules, tests)) in
+    let l : j < 128 = search rules in
+    let e : c.map_or.result ≡ unwrap_or (option_map (λ v. v.value) (option_map (λ v. v.now) c.find.result)) x = search rules in
+    ap Some (e ∙ ap (λ o. unwrap_or (option_map (λ v. v.value) o) x) found ∙ sym (seen_as s j n)) ∙ cond_below j 128 _ _ l

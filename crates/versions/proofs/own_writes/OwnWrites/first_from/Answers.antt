@@ -1,19 +1,14 @@
-use Rattle.std.proofs.Common.{◌≡◌, ◌+◌, ◌-◌, get_or, drop, sym, ap, ◌∙◌, arith}
-use Rattle.stores.specs.Model.{first_from}
-use Rattle.versions.specs.Pairs.{own_in, no_pair, lower_from}
+use Rattle.std.proofs.Common.{◌≡◌, ◌≤◌, leb, length, rules}
+use Rattle.std.specs.List.{filter, All, Contains}
+use Rattle.std.specs.Option.{MatchOption}
 use Rattle.versions.specs.Writes.{held}
-use Rattle.versions.proofs.Held.{held_lowest, held_no_lowest}
+use Rattle.versions.proofs.Lowest.{least_is_first}
 use Rattle.versions.proofs.own_writes.OwnWrites.first_from.Goals as goal
 
-pub loop-i-init : goal.loop-i-init
-loop-i-init c = sym (held_no_lowest c.args.self.now c.args.object)
-
-pub loop-i-preserved : goal.loop-i-preserved
-loop-i-preserved c =
+pub returns : goal.returns
+returns c =
     let w = c.args.self.now in
     let j = c.args.object in
-    let i = c.loop-i.i in
-    let back : i - 1 + 1 ≡ i = omega (arith, c.loop-i-test.true) in
-    let rest = ap (λ n. first_from (own_in (drop n (held w))) j (128 - j)) back in
-    c.lower-lowest.ensures ∙ ap (λ f. lower_from j f (get_or w.pairs (i - 1) no_pair)) (c.loop-i.invariant ∙ sym rest)
-    ∙ sym (held_lowest w (i - 1) j (omega (arith, c.loop-i-test.true, c.loop-i.auto.i)))
+    let ys = filter (λ p. leb j p.object) (held w) in
+    let least : MatchOption c.min_by_key.result (length ys ≡ 0) (λ m. Contains ys m × All (λ p. m.object ≤ p.object) ys) = search rules in
+    record { answer = least_is_first (held w) j c.min_by_key.result w.once least }

@@ -1,18 +1,16 @@
-use Rattle.std.proofs.Common.{sym, ap, ◌∙◌, arith}
-use Rattle.tickets.specs.declared.pair.Pair.{Pair}
+use Rattle.std.proofs.Common.{◌≡◌, eqb, rules}
+use borrow.Author.Tests.{tests}
+use Rattle.std.specs.List.{position}
+use Rattle.std.proofs.lemmas.Iterator.{YieldsList-from_slice}
+use Rattle.std.proofs.lemmas.Iterator.Search.{position_from_yields_List}
 use Rattle.versions.specs.Writes.{held}
-use Rattle.versions.proofs.Pairs.{own_skip, own_end}
-use Rattle.versions.proofs.Held.{held_length, held_at}
+use Rattle.versions.proofs.Held.{held_position}
 use Rattle.versions.proofs.own_writes.OwnWrites.position.Goals as goal
-
-pub loop-i-preserved : goal.loop-i-preserved
-loop-i-preserved c =
-    let w = c.args.self.now in
-    let i = c.loop-i.i in
-    let t = c.loop-i-test.true in
-    own_skip (held w) i c.args.object (omega (arith, held_length w)) (λ e. c.if-self-i.false (ap (λ (p : Pair). p.object) (sym (held_at w i t)) ∙ e)) ∙ c.loop-i.invariant
 
 pub returns : goal.returns
 returns c =
     let w = c.args.self.now in
-    sym c.loop-i.invariant ∙ own_end (held w) c.loop-i.i c.args.object (omega (arith, held_length w))
+    let j = c.args.object in
+    let found : c.position.result ≡ position (λ p. eqb p.object j) (held w) =
+    position_from_yields_List (λ p. eqb p.object j) c.position.new.self _ c.position.result c.position.ensures.ran (YieldsList-from_slice (held w) cc) (λ x b q k. search (rules, tests)) in
+    held_position w j c.position.result found
