@@ -1,5 +1,5 @@
 -- What an engine means, over what its bank means.
-use Rattle.std.specs.Prelude.{List, Ok, Err, Result}
+use Rattle.std.specs.Prelude.{List, Ok, Err, Result, is_some, replicate, unwrap_or}
 use Rattle.stores.specs.Model.{StoreModel}
 use Rattle.ledger.specs.declared.numbered.Numbered.{Numbered}
 use Rattle.ledger.specs.Transactions.{txns_of}
@@ -8,9 +8,9 @@ use Rattle.machine.specs.declared.reason.Reason.{Reason}
 use Rattle.machine.specs.Machine.{Machine}
 use Rattle.engine.specs.declared.engine.Engine.{Engine}
 
--- stores: what a bank means
+-- stores: what a bank means. There is a starting board from the opening on; before it, it reads as 0s and means nothing
 abbrev pub seen : {X : Type 0} → (X → List StoreModel) → Engine X → Machine
-seen stores m = record { opened = m.opened; start = m.start; stores = stores m.bank; txns = txns_of m.txns; sets = sets_of m.sets }
+seen stores m = record { opened = is_some m.start; start = unwrap_or m.start (replicate 128 0); stores = stores m.bank; txns = txns_of m.txns; sets = sets_of m.sets }
 
 -- a numbered write set that is answered, by what it means
 abbrev pub set_seen : Result Numbered Reason → Result SetModel Reason

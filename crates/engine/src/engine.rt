@@ -16,11 +16,12 @@ mod records;
 mod works;
 
 // The memory for all numbers is reserved when it is made, so no call asks for more.
+// The contracts name what it means, `seen`, each time: a store's own writes mean a function, and no `Model` has a function in its value.
 #[derive(Drop)]
 pub struct Engine<B: Bank> {
     bank: B,
-    opened: bool,
-    start: [u32; 128],
+    // the board that every replica began with, once the bank is opened
+    start: Option<[u32; 128]>,
     txns: Transactions,
     sets: WriteSets,
 }
@@ -30,6 +31,7 @@ impl<B: Bank> Engine<B> {
     pub fn new(heap: Global, bank: B) -> Result<Engine<B>, B>
         ensures made { MatchResult result (λ m. seen B.Bank.stores m ≡ record { opened = false; start = replicate 128 0; stores = B.Bank.stores bank; txns = []; sets = [] }) (λ b. b ≡ bank) }
     {
+        // `map_err(|_| bank)?` would move the bank into a closure, and it is used below
         let Ok(txns) = Transactions::new(heap) else {
             return Err(bank);
         };
@@ -38,8 +40,7 @@ impl<B: Bank> Engine<B> {
         };
         Ok(Engine {
             bank,
-            opened: false,
-            start: [0; 128],
+            start: None,
             txns,
             sets,
         })
@@ -51,7 +52,6 @@ impl<B: Bank> Engine<B> {
     {
         let Engine {
             bank,
-            opened: _,
             start: _,
             txns: _,
             sets: _,

@@ -81,20 +81,18 @@ impl<B: Bank> Engine<B> {
         self.play(replica, n)
     }
 
-    // Counts the applications that are made.
+    // Answers how many applications were made.
     fn drain_at(&mut self, replica: u8, m: u32) -> Result<u32, Reason>
         ensures answer { result ≡ (drained replica m 0 (seen B.Bank.stores self.old)).answer }
         ensures after { seen B.Bank.stores self.new ≡ (drained replica m 0 (seen B.Bank.stores self.old)).after }
     {
-        let mut made = 0;
-        while made < m {
+        for made in 0..m {
             let Some(n) = self.sets.lowest_unapplied(replica) else {
                 return Ok(made);
             };
-            self.play(replica, n as u32)?;
-            made += 1;
+            self.play(replica, u32::from(n))?;
         }
-        Ok(made)
+        Ok(m)
     }
 
     /// Applies the lowest unapplied numbers at a replica, at most so many, and answers how many it applied.

@@ -44,9 +44,7 @@ impl<B: Bank> Engine<B> {
             set,
             applied: Applied::nowhere(),
         };
-        let Some(n) = self.sets.add(numbered) else {
-            return Err(Reason::WriteSetsGiven);
-        };
+        let n = self.sets.add(numbered).ok_or(Reason::WriteSetsGiven)?;
         self.tell(t, Event::Commit(Verdict::Numbered(n)));
         Ok(Verdict::Numbered(n))
     }

@@ -1,5 +1,5 @@
 // The checks that calls begin with.
-ghost use Rattle.std.specs.Prelude.{◌≡◌};
+ghost use Rattle.std.specs.Prelude.{◌≡◌, true, false, MatchResult};
 ghost use Rattle.machine.specs.Machine.{replica_at, transaction_at, taking, object_at, set_at, told};
 ghost use Rattle.engine.specs.Seen.{seen, set_seen};
 
@@ -20,13 +20,18 @@ pub(crate) fn object(j: u32) -> Result<usize, Reason>
 }
 
 impl<B: Bank> Engine<B> {
+    // The starting board of an opened bank: 20.
+    pub(crate) fn opened(&self) -> Result<&[u32; 128], Reason>
+        ensures answer { MatchResult result (λ start. ((seen B.Bank.stores self.now).opened ≡ true) × (start.now ≡ (seen B.Bank.stores self.now).start)) (λ e. ((seen B.Bank.stores self.now).opened ≡ false) × (e ≡ Reason.NotOpened)) }
+    {
+        self.start.as_ref().ok_or(Reason::NotOpened)
+    }
+
     // A replica of an opened bank: 20, 1.
     pub(crate) fn replica(&self, k: u32) -> Result<u8, Reason>
         ensures answer { result ≡ replica_at (seen B.Bank.stores self.now) k }
     {
-        if !self.opened {
-            return Err(Reason::NotOpened);
-        }
+        self.opened()?;
         if k as usize >= self.bank.count() {
             return Err(Reason::NoReplica);
         }
@@ -37,9 +42,7 @@ impl<B: Bank> Engine<B> {
     pub(crate) fn transaction(&self, t: u32) -> Result<Transaction, Reason>
         ensures answer { result ≡ transaction_at (seen B.Bank.stores self.now) t }
     {
-        if !self.opened {
-            return Err(Reason::NotOpened);
-        }
+        self.opened()?;
         self.txns.get(t).ok_or(Reason::NoTransaction)
     }
 
@@ -48,10 +51,7 @@ impl<B: Bank> Engine<B> {
         ensures answer { result ≡ taking (seen B.Bank.stores self.now) t event }
     {
         let x = self.transaction(t)?;
-        let mut asked = x;
-        if !asked.take(event) {
-            return Err(Reason::TransactionNotOpen);
-        }
+        x.state.after(event).ok_or(Reason::TransactionNotOpen)?;
         Ok(x)
     }
 

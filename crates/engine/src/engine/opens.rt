@@ -11,6 +11,7 @@ use ledger::applied::REPLICAS;
 use machine::Reason;
 
 // A copy that was never used, keeps the tops and is like the starting board: 11, 12, 13.
+#[tactic(auto, unfolding(machine::specs::Opening::copy_fits))]
 fn copy_fits<B: Bank>(bank: &B, replica: u8, start: &[u32; 128]) -> Result<(), Reason>
     ensures answer { result ≡ copy_fits start.now replica (store_at (B.Bank.stores bank.now) replica) }
 {
@@ -31,8 +32,8 @@ fn copies_fit<B: Bank>(bank: &B, start: &[u32; 128]) -> Result<(), Reason>
     requires { told_count (B.Bank.stores bank.now) ≤ 8 }
     ensures answer { result ≡ copies_fit start.now 0 (B.Bank.stores bank.now) }
 {
-    for replica in 0..bank.count() {
-        copy_fits(bank, replica as u8, start)?;
+    for replica in 0..bank.count() as u8 {
+        copy_fits(bank, replica, start)?;
     }
     Ok(())
 }
@@ -55,12 +56,10 @@ impl<B: Bank> Engine<B> {
         ensures answer { result ≡ (opening (seen B.Bank.stores self.old)).answer }
         ensures after { seen B.Bank.stores self.new ≡ (opening (seen B.Bank.stores self.old)).after }
     {
-        if self.opened {
+        if self.start.is_some() {
             return Err(Reason::AlreadyOpened);
         }
-        let start = may_open(&self.bank)?;
-        self.start = start;
-        self.opened = true;
+        self.start = Some(may_open(&self.bank)?);
         Ok(())
     }
 }

@@ -31,9 +31,7 @@ impl<B: Bank> Engine<B> {
     pub fn write_set(&self, n: u32) -> Result<Numbered, Reason>
         ensures answer { set_seen result ≡ set_told (seen B.Bank.stores self.now) n }
     {
-        if !self.opened {
-            return Err(Reason::NotOpened);
-        }
+        self.opened()?;
         self.numbered(n)
     }
 
@@ -49,9 +47,7 @@ impl<B: Bank> Engine<B> {
     pub fn numbers(&self) -> Result<usize, Reason>
         ensures answer { result ≡ numbers_told (seen B.Bank.stores self.now) }
     {
-        if !self.opened {
-            return Err(Reason::NotOpened);
-        }
+        self.opened()?;
         Ok(self.sets.len())
     }
 
@@ -59,9 +55,6 @@ impl<B: Bank> Engine<B> {
     pub fn starting_board(&self) -> Result<[u32; 128], Reason>
         ensures answer { result ≡ start_told (seen B.Bank.stores self.now) }
     {
-        if !self.opened {
-            return Err(Reason::NotOpened);
-        }
-        Ok(self.start)
+        Ok(*self.opened()?)
     }
 }

@@ -17,9 +17,7 @@ impl<B: Bank> Engine<B> {
         ensures bytes { buffer.new ≡ recorded (seen B.Bank.stores self.now) buffer.old }
         ensures reads_back { IfOk result (λ n. decoded (take n buffer.new) ≡ Ok (items_of_sets (seen B.Bank.stores self.now).sets)) }
     {
-        if !self.opened {
-            return Err(Reason::NotOpened);
-        }
+        self.opened()?;
         Ok(write_run(&self.sets, buffer)?)
     }
 }

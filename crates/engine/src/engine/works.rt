@@ -57,10 +57,9 @@ impl<B: Bank> Engine<B> {
         ensures after { seen B.Bank.stores self.new ≡ (writing (seen B.Bank.stores self.old) t j v).after }
     {
         let x = self.write_checks(t, j, v)?;
-        match self.bank.write(x.home, x.place, j as usize, v) {
-            Ok(done) => Ok(done),
-            Err(fault) => Err(write_reason(fault)),
-        }
+        self.bank
+            .write(x.home, x.place, j as usize, v)
+            .map_err(write_reason)
     }
 
     /// Ends a transaction without a verdict.
