@@ -82,13 +82,10 @@ impl Held {
         ensures back { HandsBack self result }
     {
         let Held { number } = self;
-        match board.commit(number) {
-            Ok(verdict) => Ok(verdict),
-            Err(fault) => Err(Refused {
-                back: Held { number },
-                fault,
-            }),
-        }
+        board.commit(number).map_err(|fault| Refused {
+            back: Held { number },
+            fault,
+        })
     }
 
     /// Ends the transaction without a verdict. It is spent, whatever the board answers.

@@ -15,5 +15,5 @@ pub use outcome::Outcome;
 pub extern "C" fn job_board_run(heap: Global, script: &[u8], answers: &mut [u8]) -> Outcome
     ensures law { HostPromise script.now answers.old result answers.new }
 {
-    Outcome::of(run_shop(heap, script, answers))
+    Outcome::from(run_shop(heap, script, answers))
 }

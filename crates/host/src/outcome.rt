@@ -6,6 +6,7 @@ use script::Unfit;
 use shop_script::ShopFault;
 
 // 0, and the bytes of answers; 7; 9, and the length that the buffer needs; or no memory.
+// It stays numbers, and no Result, for it is what C is handed.
 #[repr(C)]
 #[derive(Clone, Copy)]
 pub struct Outcome {
@@ -16,10 +17,10 @@ pub struct Outcome {
 // No refusal has this number.
 const NO_MEMORY: u32 = 1_000;
 
-impl Outcome {
-    pub(crate) fn of(r: Result<usize, ShopFault>) -> Outcome
-        ensures answer { result ≡ outcome_of r }
-    {
+impl From<Result<usize, ShopFault>> for Outcome {
+    ghost from_gives = { λ r o. o ≡ outcome_of r };
+
+    fn from(r: Result<usize, ShopFault>) -> Outcome {
         let (status, length) = match r {
             Ok(length) => (0, length),
             Err(ShopFault::NoMemory) => (NO_MEMORY, 0),

@@ -15,11 +15,9 @@ pub fn run_shop(heap: Global, script: &[u8], buffer: &mut [u8]) -> Result<usize,
     };
     match run_script(heap, bank, script, buffer) {
         Ok(run) => Ok(run.length),
-        Err(unplayed) => match unplayed {
-            Unplayed::NoMemory(_) => Err(ShopFault::NoMemory),
-            Unplayed::Unfit(fault, _) => Err(ShopFault::Unfit(fault)),
-            // four stations of zeros are opened
-            Unplayed::NotOpened(_, _) => unreachable(),
-        },
+        Err(Unplayed::NoMemory(_)) => Err(ShopFault::NoMemory),
+        Err(Unplayed::Unfit(fault, _)) => Err(ShopFault::Unfit(fault)),
+        // four stations of zeros are opened
+        Err(Unplayed::NotOpened(_, _)) => unreachable(),
     }
 }

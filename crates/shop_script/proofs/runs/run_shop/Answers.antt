@@ -8,4 +8,5 @@ returns-in-Ok-run_script c =
 
 pub unreachable-requires : goal.unreachable-requires
 unreachable-requires c =
-    never_unopened c.in-Ok.bank c.in-Ok.ensures.answer _ _ _ c.in-Err.unplayed c.in-NotOpened.field-0 c.in-NotOpened.field-1 c.in-NotOpened.is c.in-Err.ensures.law
+    let x = c.in-Err-NotOpened in
+    never_unopened c.in-Ok.bank c.in-Ok.ensures.answer _ _ _ x.field-0 x.field-0-0 x.field-0-1 x.field-0-is x.ensures.law
