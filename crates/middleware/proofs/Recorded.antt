@@ -27,7 +27,8 @@ use Rattle.refinement.specs.Answers.{answered}
 use Rattle.refinement.specs.Worlds.{numbered_of, world_of}
 use Rattle.refinement.specs.Tops.{Within, BoardWithin}
 use Rattle.middleware.specs.declared.fault.Asked.{Asked}
-use Rattle.middleware.specs.Listing.{result_listed, asked_to}
+use Rattle.middleware.specs.Listing.{asked_to}
+use Rattle.middleware.proofs.Served.{listed_as}
 use Rattle.middleware.specs.Records.{item_of_numbered, items_of_plain, in_room, laid_over, Records, WritesRecord}
 
 -- ---- the numbered write sets of an orderly board are a run
@@ -84,10 +85,6 @@ module _ (its : List Item) (run : Run its) where
 
 -- ---- the call
 
-listed_to : (what : Asked) (q : Result ℕ Reason) → result_listed told (asked_to what q) ≡ answered told q
-listed_to what (Ok n) = refl
-listed_to what (Err e) = refl
-
 made_to : (what : Asked) (P R : ℕ → Type 0) (q : Result ℕ Reason) → ((n : ℕ) → P n → R n) → IfOk q P → IfOk (asked_to what q) R
 made_to what P R (Ok n) f h = f n h
 made_to what P R (Err e) f h = tt
@@ -99,7 +96,7 @@ module _ (w : World) (us : List SetModel) (is : items_of_sets us ≡ map item_of
       let its = map item_of_numbered w.sets in
       let run = orderly_run (world_plain w) c.orderly (omega (arith, length-map w.bank board_of, c.eight)) low in
       record {
-        answer = listed_to what q ∙ ap (answered told) (answer ∙ ap (λ (xs : List Item). carried (write_result xs (length b))) is) ∙ answer_of_run its run (length b);
+        answer = listed_as told what q ∙ ap (answered told) (answer ∙ ap (λ (xs : List Item). carried (write_result xs (length b))) is) ∙ answer_of_run its run (length b);
         bytes = bytes ∙ ap (λ (xs : List Item). write_bytes xs b) is ∙ bytes_of_run its run b;
         reads_back = made_to what (λ n. decoded (take n b') ≡ Ok (items_of_sets us)) (λ n. decoded (take n b') ≡ Ok its) q (λ n e. e ∙ ap Ok is) reads;
       }
@@ -107,7 +104,7 @@ module _ (w : World) (us : List SetModel) (is : items_of_sets us ≡ map item_of
   of_unopened : q ≡ Err NotOpened → b' ≡ b → Records PlainBoard.unopened b (asked_to what q) b'
   of_unopened answer bytes =
       record {
-        answer = listed_to what q ∙ ap (answered told) answer;
+        answer = listed_as told what q ∙ ap (answered told) answer;
         bytes = bytes;
         reads_back = subst (λ (x : Result ℕ Reason). IfOk (asked_to what x) (λ n. decoded (take n b') ≡ Ok [])) (sym answer) tt;
       }
@@ -135,10 +132,6 @@ recorded_in_room false r room h = tt
 pub within_buffer : (m : Machine) (what : Asked) (room : ℕ) (q : Result ℕ Reason) → q ≡ recording m room → IfOk (asked_to what q) (λ n. n ≤ room)
 within_buffer m what room q e =
     let its = items_of_sets m.sets in
-    as_asked what room q
+    made_to what (λ n. n ≤ room) (λ n. n ≤ room) q (λ n h. h)
     (subst (λ (r : Result ℕ Reason). IfOk r (λ k. k ≤ room)) (sym e)
     (recorded_in_room m.opened (carried (write_result its room)) room (written_in_room (unfit its) (length (encoded its)) room)))
-  where
-    as_asked : (what : Asked) (room : ℕ) (q : Result ℕ Reason) → IfOk q (λ n. n ≤ room) → IfOk (asked_to what q) (λ n. n ≤ room)
-    as_asked what room (Ok n) h = h
-    as_asked what room (Err r) h = tt
