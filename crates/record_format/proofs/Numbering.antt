@@ -267,14 +267,6 @@ next_suc (y ∷ xs) (suc i) x e = next_suc xs i x e
 pub next_item : {A : Type 0} (xs : List A) (i : ℕ) (x : A) → Some x ≡ numbered xs (i + 1) → drop i xs ≡ x ∷ drop (i + 1) xs
 next_item xs i x e = next_suc xs i x (e ∙ ap (numbered xs) (add-one i)) ∙ ap (λ k. x ∷ drop k xs) (sym (add-one i))
 
-taken_suc : {A : Type 0} (xs : List A) (i : ℕ) (x : A) → Some x ≡ numbered xs (suc i) → take (suc i) xs ≡ take i xs ++ x ∷ []
-taken_suc [] i x e = absurd (let z : ◌≡◌ {A = ℕ} 0 1 = cc in omega arith)
-taken_suc (y ∷ xs) zero x e = let f : x ≡ y = cc in ap (λ w. w ∷ []) (sym f)
-taken_suc (y ∷ xs) (suc i) x e = ap (λ ys. y ∷ ys) (taken_suc xs i x e)
-
-pub next_taken : {A : Type 0} (xs : List A) (i : ℕ) (x : A) → Some x ≡ numbered xs (i + 1) → take (i + 1) xs ≡ take i xs ++ x ∷ []
-next_taken xs i x e = ap (λ k. take k xs) (add-one i) ∙ taken_suc xs i x (e ∙ ap (numbered xs) (add-one i))
-
 none_suc : {A : Type 0} (xs : List A) (i : ℕ) → None ≡ numbered xs (suc i) → length xs ≤ i
 none_suc [] i e = omega arith
 none_suc (y ∷ xs) zero e = absurd (let z : ◌≡◌ {A = ℕ} 0 1 = cc in omega arith)
@@ -291,10 +283,10 @@ numbered_suc f (x ∷ xs) zero d h = refl
 numbered_suc f (x ∷ xs) (suc i) d h = numbered_suc f xs i d (omega arith)
 
 -- the element at a place is what stands at the next number
-pub numbered_at : {A B : Type 0} (f : A → B) (xs : List A) (n : ℕ) (d : A) → 1 ≤ n → n ≤ length xs → Some (f (get_or xs (n - 1) d)) ≡ numbered (map f xs) n
+numbered_at : {A B : Type 0} (f : A → B) (xs : List A) (n : ℕ) (d : A) → 1 ≤ n → n ≤ length xs → Some (f (get_or xs (n - 1) d)) ≡ numbered (map f xs) n
 numbered_at f xs n d l h = let e : suc (n - 1) ≡ n = omega arith in numbered_suc f xs (n - 1) d (omega arith) ∙ ap (numbered (map f xs)) e
 
-pub none_past : {A B : Type 0} (f : A → B) (xs : List A) (n : ℕ) → (n < 1) ⊎ ((1 ≤ n) × (length xs < n)) → None ≡ numbered (map f xs) n
+none_past : {A B : Type 0} (f : A → B) (xs : List A) (n : ℕ) → (n < 1) ⊎ ((1 ≤ n) × (length xs < n)) → None ≡ numbered (map f xs) n
 none_past f xs n h = sym (numbered_past (map f xs) n (subst (λ (k : ℕ). (n < 1) ⊎ ((1 ≤ n) × (k < n))) (sym (length-map xs f)) h))
 
 -- what `get` finds at a place, by the number of that place

@@ -15,16 +15,6 @@ use Rattle.record_format.proofs.Lengths.{length-body, length-encoded}
 
 -- ---- the pairs of a write set
 
--- the pair at a place, where there is one
-abbrev pub pair_told : Pairs → ℕ → Option (ℕ × ℕ)
-pair_told ps i = cond (ltb i (length ps)) (Some (get_or ps i (0, 0))) None
-
-pub told_pair : (ps : Pairs) (i : ℕ) (p : ℕ × ℕ) → i < length ps → Some p ≡ pair_told ps i → p ≡ get_or ps i (0, 0)
-told_pair ps i p h e = let f = e ∙ cond-true _ _ _ (lt-ltb _ _ h) in cc
-
-pub always_told : (ps : Pairs) (i : ℕ) → i < length ps → None ≡ pair_told ps i → ⊥
-always_told ps i h e = let f = e ∙ cond-true _ _ _ (lt-ltb _ _ h) in let z : ◌≡◌ {A = ℕ} 0 1 = cc in omega arith
-
 -- the pairs that the code has are within the tops, each by itself
 pub tops_of_each : (ps : List Pair) → list_all (λ p. leb p.value (top p.object)) ps ≡ within_tops (map pair_of ps)
 tops_of_each [] = refl
