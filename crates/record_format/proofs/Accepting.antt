@@ -1,15 +1,12 @@
 -- Pairs gathered one by one into a write set within the tops: each step, and where it fails.
-use Rattle.std.proofs.Common.{◌≡◌, ℕ, zero, suc, ◌+◌, ◌*◌, ◌<◌, ◌≤◌, Bool, true, false, ltb, leb, List, [], ◌∷◌, ◌++◌, length, get_or, take, drop, Some, None, Option, sym, refl, ap, ◌∙◌, inl, inr, add-one, arith}
+use Rattle.std.proofs.Common.{◌≡◌, ℕ, zero, suc, ◌<◌, ◌≤◌, Bool, true, false, ◌&&◌, ltb, leb, [], ◌∷◌, ◌++◌, length, take, Some, None, Option, sym, refl, ap, ◌∙◌, inl, inr, arith}
 use Rattle.std.proofs.lemmas.Bool.{and_parts, and_from, and_left, and_right, leb-true, le-leb, lt-ltb, cond-true, cond-false, cases_Bool, both_ways}
-use Rattle.std.proofs.lemmas.List.{length-take-le, take_more, take_all}
+use Rattle.std.proofs.lemmas.List.{append_assoc, take_at, length-append, length-take-le}
 use Rattle.tickets.specs.Boards.{top}
 use Rattle.tickets.specs.WriteSets.{Pairs, rising, is_write_set}
 use Rattle.tickets.specs.Meaning.{built, pairs}
 use Rattle.tickets.specs.declared.write_set.WriteSet.{WriteSet}
-use Rattle.record_format.specs.Items.{within_tops, fine_pairs, topped, accepted}
-use Rattle.record_format.specs.Reading.{pair_in, pairs_in}
-use Rattle.record_format.proofs.Places.{pair_number}
-use Rattle.record_format.proofs.Forth.{length-pairs_in}
+use Rattle.record_format.specs.Items.{within_tops, topped, accepted}
 
 none≢some : {A : Type 0} {x : A} → ◌≡◌ {A = Option A} None (Some x) → ⊥
 none≢some e = let z : ◌≡◌ {A = ℕ} 0 1 = cc in omega arith
@@ -54,17 +51,13 @@ built_none ps e =
 
 -- ---- what holds of pairs holds of a front of them
 
-tops_suc : (ps : Pairs) (k : ℕ) → k < length ps → within_tops (take k ps) ≡ true → under_top (get_or ps k (0, 0)) ≡ true → within_tops (take (suc k) ps) ≡ true
-tops_suc [] k h w t = absurd (omega arith)
-tops_suc ((j, v) ∷ ps) zero h w t = and_from _ _ t refl
-tops_suc ((j, v) ∷ ps) (suc k) h w t =
-    let a = and_parts (leb v (top j)) _ w in
-    and_from _ _ a.0 (tops_suc ps k (omega arith) a.1 t)
-
-above_top : (ps : Pairs) (k : ℕ) → k < length ps → under_top (get_or ps k (0, 0)) ≡ false → within_tops ps ≡ false
-above_top [] k h f = absurd (omega arith)
-above_top ((j, v) ∷ ps) zero h f = and_left _ _ f
-above_top ((j, v) ∷ ps) (suc k) h f = and_right (leb v (top j)) _ (above_top ps k (omega arith) f)
+tops_of_both : (ps qs : Pairs) → within_tops (ps ++ qs) ≡ within_tops ps && within_tops qs
+tops_of_both [] qs = refl
+tops_of_both (p ∷ ps) qs = ap (λ b. under_top p && b) (tops_of_both ps qs) ∙ and_assoc (under_top p) (within_tops ps) (within_tops qs)
+  where
+    and_assoc : (a b c : Bool) → a && (b && c) ≡ (a && b) && c
+    and_assoc true b c = refl
+    and_assoc false b c = refl
 
 front_rises : (k low : ℕ) (ps : Pairs) → rising low ps ≡ true → rising low (take k ps) ≡ true
 front_rises zero low ps r = refl
@@ -91,53 +84,37 @@ no_front_no_set k ps some h f =
 
 -- ---- gathering
 
--- the first k of the pairs were taken, and none is above its top
-pub record Gathered (count k : ℕ) (bs : List ℕ) (ps : Pairs) : Type 0 where
-  pub front : ps ≡ take k (pairs_in count bs)
-  pub tops : within_tops (take k (pairs_in count bs)) ≡ true
+-- of all the pairs, some were taken, none of them above its top, and the others are left
+pub record Gathered (all left ps : Pairs) : Type 0 where
+  pub whole : ps ++ left ≡ all
+  pub tops : within_tops ps ≡ true
 
-module _ (count : ℕ) (bs : List ℕ) where
-  abbrev all : Pairs
-  all = pairs_in count bs
+module _ {all : Pairs} where
+  module _ {left ps rest : Pairs} {p : ℕ × ℕ} (next : left ≡ p ∷ rest) (g : Gathered all left ps) where
+    with_next : (ps ++ p ∷ []) ++ rest ≡ all
+    with_next = append_assoc ps (p ∷ []) rest ∙ ap (λ l. ps ++ l) (sym next) ∙ g.whole
 
-  pub none_gathered : Gathered count 0 bs []
-  none_gathered = record { front = refl; tops = refl }
+    pub gathered_more : {q : ℕ × ℕ} {qs : Pairs} → Some q ≡ topped p → Some qs ≡ built (ps ++ q ∷ []) → Gathered all rest qs
+    gathered_more e b =
+        let t = topped_some e in
+        let is = built_some b ∙ ap (λ r. ps ++ r ∷ []) t.0 in
+        record {
+          whole = ap (λ l. l ++ rest) is ∙ with_next;
+          tops = ap within_tops is ∙ tops_of_both ps (p ∷ []) ∙ and_from _ _ g.tops (and_from _ _ t.1 refl);
+        }
 
-  pub no_pairs : count ≡ 0 → None ≡ accepted all
-  no_pairs e = ap (λ k. accepted (pairs_in k bs)) (sym e)
+    pub bad_value : None ≡ topped p → None ≡ accepted all
+    bad_value e =
+        let above = and_right (within_tops ps) _ (and_left _ (within_tops rest) (topped_none p e)) in
+        let tops = ap within_tops (sym g.whole ∙ ap (λ l. ps ++ l) next) ∙ tops_of_both ps (p ∷ rest) ∙ above in
+        sym (cond-false _ _ _ (and_right (is_write_set all) _ tops))
 
-  pair_is : {k : ℕ} {p : ℕ × ℕ} → k < count → Some p ≡ topped (pair_in (drop (5 * k) bs)) → (p ≡ get_or all k (0, 0)) × (under_top (get_or all k (0, 0)) ≡ true)
-  pair_is {k} {p} h e = topped_some (e ∙ ap topped (sym (pair_number count k bs h)))
-
-  one_more : {k : ℕ} {ps : Pairs} {p : ℕ × ℕ} → k < count → Gathered count k bs ps → Some p ≡ topped (pair_in (drop (5 * k) bs)) → ps ++ p ∷ [] ≡ take (k + 1) all
-  one_more {k} {ps} {p} h g e =
-      let n = length-pairs_in count bs in
-      let t = take_more all k (0, 0) (omega arith) in
-      (λ i. g.front i ++ (pair_is h e).0 i ∷ []) ∙ sym t
-
-  pub gathered_more : {k : ℕ} {ps qs : Pairs} {p : ℕ × ℕ} → k < count → Gathered count k bs ps → Some p ≡ topped (pair_in (drop (5 * k) bs)) → Some qs ≡ built (ps ++ p ∷ []) → Gathered count (k + 1) bs qs
-  gathered_more {k} {ps} {qs} {p} h g e b =
-      let n = length-pairs_in count bs in
-      record {
-        front = built_some b ∙ one_more h g e;
-        tops = ap (λ m. within_tops (take m all)) (add-one k) ∙ tops_suc all k (omega arith) g.tops (pair_is h e).1;
-      }
-
-  pub bad_value : {k : ℕ} → k < count → None ≡ topped (pair_in (drop (5 * k) bs)) → None ≡ accepted all
-  bad_value {k} h e =
-      let n = length-pairs_in count bs in
-      sym (cond-false _ _ _ (and_right (is_write_set all) _ (above_top all k (omega arith) (topped_none (get_or all k (0, 0)) (e ∙ ap topped (sym (pair_number count k bs h)))))))
-
-  pub bad_object : {k : ℕ} {ps : Pairs} {p : ℕ × ℕ} → k < count → Gathered count k bs ps → Some p ≡ topped (pair_in (drop (5 * k) bs)) → None ≡ built (ps ++ p ∷ []) → None ≡ accepted all
-  bad_object {k} {ps} {p} h g e b =
-      let n = length-pairs_in count bs in
-      let f = built_none (take (k + 1) all) (b ∙ ap built (one_more h g e)) in
-      sym (cond-false _ _ _ (and_left (is_write_set all) _ (no_front_no_set (k + 1) all (omega arith) (omega arith) f)))
-
-  pub all_gathered : {k : ℕ} (w : WriteSet) → count ≤ k → Gathered count k bs (pairs w) → Some (pairs w) ≡ accepted all
-  all_gathered {k} w h g =
-      let n = length-pairs_in count bs in
-      let t = take_all k all (omega arith) in
-      let e = g.front ∙ t in
-      let f : fine_pairs all ≡ true = and_from _ _ (ap is_write_set (sym e) ∙ is_a_write_set w) (ap within_tops (sym t) ∙ g.tops) in
-      ap Some e ∙ sym (cond-true _ _ _ f)
+    pub bad_object : {q : ℕ × ℕ} → Some q ≡ topped p → None ≡ built (ps ++ q ∷ []) → None ≡ accepted all
+    bad_object e b =
+        let f = built_none (ps ++ p ∷ []) (b ∙ ap (λ r. built (ps ++ r ∷ [])) (topped_some e).0) in
+        let n = length (ps ++ p ∷ []) in
+        let front : take n all ≡ ps ++ p ∷ [] = ap (take n) (sym with_next) ∙ take_at (ps ++ p ∷ []) rest n refl in
+        let some = length-append ps (p ∷ []) in
+        let within = ap length with_next in
+        let long = length-append (ps ++ p ∷ []) rest in
+        sym (cond-false _ _ _ (and_left _ (within_tops all) (no_front_no_set n all (omega arith) (omega arith) (ap is_write_set front ∙ f))))

@@ -1,10 +1,10 @@
 -- An item of a record that reads stands where its entry in the contents says.
-use Rattle.std.proofs.Common.{◌≡◌, ℕ, zero, suc, ◌+◌, ◌-◌, ◌*◌, ◌<◌, ◌≤◌, true, cond, ◌⊎◌, List, [], ◌∷◌, ◌++◌, map, length, get_or, take, drop, Some, None, Ok, Err, Option, Result, Bor, sym, refl, ap, ◌∙◌, subst, inl, inr, add-one, arith}
+use Rattle.std.proofs.Common.{◌≡◌, ℕ, zero, suc, ◌+◌, ◌-◌, ◌*◌, ◌<◌, ◌≤◌, true, cond, ◌⊎◌, List, [], ◌∷◌, map, length, get_or, take, drop, Some, None, Ok, Err, Option, Result, Bor, sym, refl, ap, ◌∙◌, subst, inl, inr, add-one, arith}
 use Rattle.std.specs.Option.{option_map, option_copied}
 use Rattle.std.specs.Slice.{IsItemAt}
 use Rattle.std.proofs.lemmas.Bool.{cond-true, cond-false, cases_Bool}
 use Rattle.std.proofs.ByRecursion.{All-drop}
-use Rattle.std.proofs.lemmas.List.{drop-drop, length-drop, length-map, length-take-le, get_or-drop}
+use Rattle.std.proofs.lemmas.List.{drop-drop, length-drop, length-map, get_or-drop}
 use Rattle.record_format.specs.Items.{Item}
 use Rattle.record_format.specs.Written.{body, first_body, placed_bodies}
 use Rattle.record_format.specs.Reading.{two_of, item_in, size_in, entry_of, Entered, stands, item_at, decoded_from, headless, decoded, count_of, items_read, items_in, bodies_in, numbered, span, span_in}
@@ -242,20 +242,6 @@ none_placed bs n e =
     alike (x ∷ xs) [] (suc n) l f = absurd (omega arith)
     alike (x ∷ xs) (y ∷ ys) (suc zero) l f = absurd (let z : ◌≡◌ {A = ℕ} 0 1 = cc in omega arith)
     alike (x ∷ xs) (y ∷ ys) (suc (suc n)) l f = alike xs ys (suc n) (omega arith) f
-
--- the body as it is cut from the record
-module _ (bs : List ℕ) (n at size : ℕ) (p : Placed bs n at size) where
-  same_size : at + size - at ≡ size
-  same_size = omega arith
-
-  pub cut_is_body : Bytes bs → Some (take (at + size - at) (drop at bs), at) ≡ numbered (bodies_in bs) n
-  cut_is_body h = ap (λ k. Some (take k (drop at bs), at)) same_size ∙ p.body_is h
-
-  pub cut_is_part : take (at + size - at) (drop at bs) ≡ take (length (take (at + size - at) (drop at bs))) (drop at bs)
-  cut_is_part =
-      let l = length-drop at bs in
-      let t = length-take-le (at + size - at) (drop at bs) (omega (arith, p.room)) in
-      ap (λ k. take k (drop at bs)) (sym t)
 
 -- ---- the items one after the other
 

@@ -1,10 +1,9 @@
 -- The items of a run, one after the other, and the pairs of one: what is next, and whether it may stand.
-use Rattle.std.proofs.Common.{◌≡◌, ℕ, ◌+◌, ◌*◌, ◌<◌, ◌≤◌, true, cond, ltb, leb, ◌&&◌, List, [], ◌∷◌, ◌++◌, length, map, get_or, drop, Some, None, Option, sym, refl, ap, ◌∙◌, arith}
+use Rattle.std.proofs.Common.{◌≡◌, ℕ, ◌+◌, ◌*◌, ◌<◌, ◌≤◌, true, leb, ◌&&◌, List, [], ◌∷◌, ◌++◌, length, map, get_or, drop, sym, refl, ap, ◌∙◌, arith}
 use Rattle.std.specs.List.{flat_map, list_all}
-use Rattle.std.proofs.lemmas.Bool.{lt-ltb, cond-true}
+use Rattle.std.proofs.lemmas.Bool.{cond-true}
 use Rattle.std.proofs.lemmas.List.{drop_more, length-append}
 use Rattle.tickets.specs.Boards.{top}
-use Rattle.tickets.specs.WriteSets.{Pairs}
 use Rattle.tickets.specs.Meaning.{pair_of, pairs}
 use Rattle.tickets.specs.declared.pair.Pair.{Pair}
 use Rattle.record_format.specs.Items.{Item, within_tops, fits, first_unfit}

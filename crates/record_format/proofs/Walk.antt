@@ -1,6 +1,6 @@
 -- A record read item by item: what is left after some of them.
-use Rattle.std.proofs.Common.{◌≡◌, ℕ, suc, ◌+◌, ◌-◌, ◌*◌, ◌<◌, ◌≤◌, true, false, cond, ltb, List, [], ◌∷◌, length, get_or, drop, Some, None, Ok, Err, Result, sym, refl, ap, ◌∙◌, inl, inr, arith}
-use Rattle.std.proofs.lemmas.Bool.{cond-true, cond-false, cases_Bool, lt-ltb, or_left, or_right}
+use Rattle.std.proofs.Common.{◌≡◌, ℕ, suc, ◌+◌, ◌-◌, ◌*◌, ◌<◌, ◌≤◌, true, false, cond, List, [], ◌∷◌, length, get_or, drop, Some, None, Ok, Err, Result, sym, refl, ap, ◌∙◌, inl, inr, add-zero, arith}
+use Rattle.std.proofs.lemmas.Bool.{cond-true, cond-false, cases_Bool}
 use Rattle.std.proofs.lemmas.List.{drop-drop, length-drop, drop_all}
 use Rattle.record_format.specs.Items.{Item}
 use Rattle.record_format.specs.Written.{first_body}
@@ -91,15 +91,6 @@ rest_over bs count i at h over =
 
 -- ---- the head
 
-pub no_count : (bs : List ℕ) → length bs < 2 → decoded bs ≡ Err 0
-no_count bs h = cond-true _ _ _ (or_left (ltb (length bs) 2) _ (lt-ltb _ _ h))
-
-pub count_above : (bs : List ℕ) → 256 < two_of bs → decoded bs ≡ Err 0
-count_above bs h = cond-true _ _ _ (or_right (ltb (length bs) 2) _ (or_left (ltb 256 (two_of bs)) _ (lt-ltb _ _ h)))
-
-pub contents_short : (bs : List ℕ) → length bs < first_body (two_of bs) → decoded bs ≡ Err 0
-contents_short bs h = cond-true _ _ _ (or_right (ltb (length bs) 2) _ (or_right (ltb 256 (two_of bs)) _ (lt-ltb _ _ h)))
-
 pub all_left : (bs : List ℕ) (count : ℕ) → count ≡ two_of bs → first_body count ≤ length bs → count ≤ 256 → decoded bs ≡ rest bs count 0 (first_body count)
 all_left bs count e long few =
     let z : count ≡ count - 0 = omega arith in
@@ -119,3 +110,37 @@ tally_none (Err n) = refl
 pub tally_more : (i : ℕ) (it : Item) (r : Result (List Item) ℕ) → tally i (before it r) ≡ tally (i + 1) r
 tally_more i it (Ok its) = ap Ok (let e : i + suc (length its) ≡ i + 1 + length its = omega arith in e)
 tally_more i it (Err n) = refl
+
+-- ---- item n of the walk, which read those before it
+
+module _ (bs : List ℕ) (count n at : ℕ) {answer : Result ℕ ℕ} (so_far : tally (n - 1) (rest bs count (n - 1) at) ≡ answer) where
+  module _ (some : 1 ≤ n) (few : n ≤ count) where
+    same_number : n - 1 + 1 ≡ n
+    same_number = omega arith
+
+    pub walk_ends_here : None ≡ item_at bs n at → Err n ≡ answer
+    walk_ends_here e =
+        let bad = rest_bad bs count (n - 1) at (omega arith) (e ∙ ap (λ k. item_at bs k at) (sym same_number)) in
+        ap Err (sym same_number) ∙ sym (ap (tally (n - 1)) bad) ∙ so_far
+
+    module _ (it : Item) (e : Some it ≡ item_at bs n at) where
+      there : Stood bs (n - 1) at it
+      there = stood bs (n - 1) at it (e ∙ ap (λ k. item_at bs k at) (sym same_number))
+
+      pub next_within : at ≤ length bs → at + (2 + 5 * length it.pairs) ≤ length bs
+      next_within h = within_more bs (n - 1) at it h there
+
+      pub walk_goes_on : (m next : ℕ) → m ≡ n → next ≡ at + (2 + 5 * length it.pairs) → tally m (rest bs count m next) ≡ answer
+      walk_goes_on m next same_m next_is =
+          let past = at + (2 + 5 * length it.pairs) in
+          (λ i. tally (same_m i) (rest bs count (same_m i) (next_is i)))
+          ∙ ap (λ k. tally k (rest bs count k past)) (sym same_number)
+          ∙ sym (ap (tally (n - 1)) (rest_more bs count (n - 1) at it (omega arith) there) ∙ tally_more (n - 1) it (rest bs count (n - 1 + 1) past))
+          ∙ so_far
+
+module _ (bs : List ℕ) (count at : ℕ) {answer : Result ℕ ℕ} (all : tally count (rest bs count count at) ≡ answer) where
+  pub walk_leaves_bytes : at < length bs → Err (count + 1) ≡ answer
+  walk_leaves_bytes over = sym (ap (tally count) (rest_over bs count count at (omega arith) over)) ∙ all
+
+  pub walk_leaves_none : length bs ≤ at → Ok count ≡ answer
+  walk_leaves_none full = ap Ok (sym (add-zero count)) ∙ sym (ap (tally count) (rest_none bs count count at (omega arith) full)) ∙ all

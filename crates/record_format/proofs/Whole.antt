@@ -1,11 +1,9 @@
 -- The write sets of a record, played over a board one after the other.
-use Rattle.std.proofs.Common.{◌≡◌, ℕ, ◌+◌, ◌<◌, List, [], ◌∷◌, ◌++◌, length, None, refl, ap, ◌∙◌, arith}
+use Rattle.std.proofs.Common.{◌≡◌, List, [], ◌∷◌, ◌++◌, refl}
 use Rattle.tickets.specs.Boards.{Board}
 use Rattle.tickets.specs.Meaning.{pairs}
 use Rattle.tickets.specs.WriteSets.{play}
 use Rattle.record_format.specs.Items.{play_all}
-use Rattle.record_format.specs.Reading.{items_in, numbered}
-use Rattle.record_format.proofs.Numbering.{no_next}
 use Rattle.record_format.specs.Meaning.{items_of}
 use Rattle.record_format.specs.declared.numbered_set.NumberedSet.{NumberedSet}
 

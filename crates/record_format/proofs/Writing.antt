@@ -1,6 +1,6 @@
 -- One write after another, and what is written part by part.
 use Rattle.std.proofs.Common.{◌≡◌, ℕ, ◌+◌, ◌-◌, ◌≤◌, List, [], ◌++◌, length, take, drop, sym, refl, ap, ◌∙◌, subst, add-zero, arith}
-use Rattle.std.proofs.lemmas.List.{append_assoc, take-append-drop, take_at, drop_at, drop-drop, length-append, length-take-le, length-drop}
+use Rattle.std.proofs.lemmas.List.{append_assoc, take-append-drop, take_at, drop_at, drop-drop, length-append, length-take-le}
 use Rattle.record_format.specs.Buffers.{written, Wrote}
 
 module _ (b : List ℕ) (at : ℕ) (xs : List ℕ) (room : at + length xs ≤ length b) where
@@ -9,11 +9,6 @@ module _ (b : List ℕ) (at : ℕ) (xs : List ℕ) (room : at + length xs ≤ le
 
   grouped : (take at b ++ xs) ++ drop (at + length xs) b ≡ written b at xs
   grouped = append_assoc (take at b) xs (drop (at + length xs) b)
-
-  pub length-written : length (written b at xs) ≡ length b
-  length-written =
-      let l = length-append (take at b ++ xs) (drop (at + length xs) b) in
-      ap length (sym grouped) ∙ omega (arith, front_length, length-drop (at + length xs) b)
 
   front : take (at + length xs) (written b at xs) ≡ take at b ++ xs
   front = ap (take (at + length xs)) (sym grouped) ∙ take_at (take at b ++ xs) _ _ front_length

@@ -21,10 +21,3 @@ pub struct Body<'a> {
     pub bytes: &'a [u8],
     pub at: usize,
 }
-
-// Where a body lies in its record.
-#[derive(Clone, Copy)]
-struct Span {
-    at: usize,
-    len: usize,
-}

@@ -3,7 +3,7 @@ ghost use Rattle.std.specs.Prelude.{◌≡◌};
 ghost use Rattle.record_format.specs.Reading.{decoded, count_of};
 ghost use Rattle.record_format.specs.Calls.{verdict_of};
 
-use crate::bytes::two_at;
+use crate::bytes::two_of;
 use crate::items::item_at;
 use record_format::{COUNT_BYTES, ENTRY_BYTES, MOST_ITEMS, PAIR_BYTES, RecordFault, S_BYTES};
 
@@ -14,14 +14,14 @@ pub(crate) fn walk(bytes: &[u8]) -> Result<usize, RecordFault>
     if bytes.len() < COUNT_BYTES {
         return Err(RecordFault::Malformed { item: 0 });
     }
-    let count = usize::from(two_at(bytes, 0));
+    let count = usize::from(two_of(bytes));
     let mut at = COUNT_BYTES + ENTRY_BYTES * count;
     if count > MOST_ITEMS || bytes.len() < at {
         return Err(RecordFault::Malformed { item: 0 });
     }
-    for i in 0..count {
-        let Some(item) = item_at(bytes, i + 1, at) else {
-            return Err(RecordFault::Malformed { item: i + 1 });
+    for n in 1..=count {
+        let Some(item) = item_at(bytes, n, at) else {
+            return Err(RecordFault::Malformed { item: n });
         };
         at += S_BYTES + PAIR_BYTES * item.set.len();
     }

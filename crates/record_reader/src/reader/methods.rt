@@ -1,4 +1,4 @@
-ghost use Rattle.std.specs.Prelude.{◌≡◌};
+ghost use Rattle.std.specs.Prelude.{◌≡◌, ◌≤◌, IfSome};
 ghost use Rattle.std.specs.Option.{option_map};
 ghost use Rattle.record_format.specs.Reading.{items_in, bodies_in, numbered, span_in};
 ghost use Rattle.record_format.specs.Calls.{check_answer};
@@ -8,9 +8,10 @@ ghost use Rattle.record_reader.specs.Readers.{read_from, part_of, span_of, PartO
 
 use crate::entry::entry_of;
 use crate::items::item_at;
-use crate::reader::{Body, Reader, Span};
+use crate::reader::{Body, Reader};
 use crate::walk::walk;
 use record_format::{NumberedSet, NumberedSets, RecordFault};
+use std::ops::Range;
 
 impl<'a> Reader<'a> {
     /// Reads a record whole, whatever it holds.
@@ -28,9 +29,10 @@ impl<'a> Reader<'a> {
         self.verdict
     }
 
-    /// Where the body of an item lies, and how long it is; none where there is no such item.
-    fn span(&self, n: usize) -> Option<Span>
+    /// Where the body of an item lies; none where there is no such item.
+    fn span(&self, n: usize) -> Option<Range<usize>>
         ensures answer { option_map span_of result ≡ span_in (read_from self.now) n }
+        ensures in_order { IfSome result (λ r. r.start ≤ r.end) }
     {
         let Ok(count) = self.verdict else {
             return None;
@@ -39,18 +41,15 @@ impl<'a> Reader<'a> {
             return None;
         }
         let entry = entry_of(self.bytes, n);
-        Some(Span {
-            at: entry.offset,
-            len: entry.size,
-        })
+        Some(entry.offset..entry.offset + entry.size)
     }
 
     /// The item of a number, counted from 1; none where there is no such item.
     pub fn item(&self, n: usize) -> Option<NumberedSet>
         ensures answer { option_map item_of result ≡ numbered (items_in (read_from self.now)) n }
     {
-        let span = self.span(n)?;
-        item_at(self.bytes, n, span.at)
+        let at = self.span(n)?.start;
+        item_at(self.bytes, n, at)
     }
 
     /// The body of an item, as a part of the record with its place; none where there is no such item.
@@ -58,10 +57,10 @@ impl<'a> Reader<'a> {
         ensures answer { option_map part_of result ≡ numbered (bodies_in (read_from self.now)) n }
         ensures part { PartOf (read_from self.now) result }
     {
-        let Span { at, len } = self.span(n)?;
+        let span = self.span(n)?;
         Some(Body {
-            bytes: &self.bytes[at..at + len],
-            at,
+            at: span.start,
+            bytes: &self.bytes[span],
         })
     }
 }

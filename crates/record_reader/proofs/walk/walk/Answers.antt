@@ -1,36 +1,52 @@
-use Rattle.std.proofs.Common.{◌≡◌, ◌+◌, ◌*◌, Ok, Err, sym, ap, ◌∙◌, arith}
-use Rattle.record_format.proofs.Walk.{tally, rest, rest_more, rest_bad, rest_none, rest_over, stood, within_more, tally_more}
+use Rattle.std.proofs.Common.{◌≡◌, ◌+◌, ◌*◌, ◌-◌, ap, ◌∙◌, arith}
+use Rattle.record_format.proofs.Walk.{tally, rest, walk_ends_here, next_within, walk_goes_on, walk_leaves_bytes, walk_leaves_none}
 use Rattle.record_format.specs.Calls.{verdict_of}
 use Rattle.record_format.specs.Meaning.{item_of}
+use Rattle.record_format.specs.Reading.{decoded, count_of}
 use Rattle.record_reader.proofs.walk.walk.Goals as goal
+use Rattle.record_reader.proofs.walk.walk.Goals.{else-loop-n-test, then-loop-n-test+in-Some+else-n-count}
 
 pub returns-in_default : goal.returns-in_default
-returns-in_default c =
-    let bad = rest_bad c.args.bytes.now c.from-count.result c.loop-i.i c.loop-i.at c.loop-i-test.true c.in_default.ensures.answer in
-    record { answer = ap verdict_of (sym (ap (tally c.loop-i.i) bad) ∙ c.loop-i.invariant.1) }
+returns-in_default c = record {
+  answer = ap verdict_of (walk_ends_here c.args.bytes.now c.from-count.result c.loop-n.n c.loop-n.at c.loop-n.invariant.2 c.loop-n.auto.n c.loop-n-test.true c.in_default.ensures.answer);
+}
 
-pub loop-i-preserved : goal.loop-i-preserved
-loop-i-preserved c =
+pub loop-n-preserved : goal.loop-n-preserved
+loop-n-preserved c =
     let bs = c.args.bytes.now in
     let count = c.from-count.result in
-    let i = c.loop-i.i in
-    let at = c.loop-i.at in
+    let n = c.loop-n.n in
     let it = item_of c.in-Some.item in
-    let s = stood bs i at it c.in-Some.ensures.answer in
-    let size = c.len.ensures.answer in
-    let more = rest_more bs count i at it c.loop-i-test.true s in (
-      omega (arith, within_more bs i at it c.loop-i.invariant.0 s),
-      ap (λ k. tally (i + 1) (rest bs count (i + 1) (at + (2 + 5 * k)))) size ∙ sym (ap (tally i) more ∙ tally_more i it _) ∙ c.loop-i.invariant.1,
-    )
+    let within = next_within bs count n c.loop-n.at c.loop-n.invariant.2 c.loop-n.auto.n c.loop-n-test.true it c.in-Some.ensures.answer c.loop-n.invariant.0 in
+    let on = walk_goes_on bs count n c.loop-n.at c.loop-n.invariant.2 c.loop-n.auto.n c.loop-n-test.true it c.in-Some.ensures.answer (n + 1 - 1) _ (omega arith) (ap (λ k. c.loop-n.at + (2 + 5 * k)) c.len.ensures.answer) in
+    (omega (arith, within, c.len.ensures.answer), omega arith, on)
 
 pub returns-then-at-bytes : goal.returns-then-at-bytes
 returns-then-at-bytes c =
-    let same : c.loop-i.i ≡ c.from-count.result = omega arith in
-    let over = rest_over c.args.bytes.now c.from-count.result c.loop-i.i c.loop-i.at c.loop-i-test.false c.if-at-bytes.true in
-    record { answer = ap verdict_of (ap (λ n. Err (n + 1)) (sym same) ∙ sym (ap (tally c.loop-i.i) over) ∙ c.loop-i.invariant.1) }
+    let bs = c.args.bytes.now in
+    let count = c.from-count.result in
+    let n = c.loop-n.n in
+    let at = c.loop-n.at in
+    let so_far = c.loop-n.invariant.2 in
+    let all : tally count (rest bs count count c.loop-n-test.at) ≡ count_of (decoded bs) =
+    elim c.loop-n-test.branch [
+      | else-loop-n-test w ↦ let same : count ≡ n - 1 = omega (arith, c.loop-n.invariant.1, w.loop-n-test.false) in (λ i. tally (same i) (rest bs count (same i) (w.at-is i))) ∙ so_far
+      | then-loop-n-test+in-Some+else-n-count w ↦
+          walk_goes_on bs count n at so_far c.loop-n.auto.n w.loop-n-test.true (item_of w.in-Some.item) w.in-Some.ensures.answer count c.loop-n-test.at (omega arith) (w.at-is ∙ ap (λ k. at + (2 + 5 * k)) w.len.ensures.answer)
+    ] in
+    record { answer = ap verdict_of (walk_leaves_bytes bs count c.loop-n-test.at all c.if-at-bytes.true) }
 
 pub returns : goal.returns
 returns c =
-    let same : c.from-count.result ≡ c.loop-i.i + 0 = omega arith in
-    let none = rest_none c.args.bytes.now c.from-count.result c.loop-i.i c.loop-i.at c.loop-i-test.false c.if-at-bytes.false in
-    record { answer = ap verdict_of (ap Ok same ∙ sym (ap (tally c.loop-i.i) none) ∙ c.loop-i.invariant.1) }
+    let bs = c.args.bytes.now in
+    let count = c.from-count.result in
+    let n = c.loop-n.n in
+    let at = c.loop-n.at in
+    let so_far = c.loop-n.invariant.2 in
+    let all : tally count (rest bs count count c.loop-n-test.at) ≡ count_of (decoded bs) =
+    elim c.loop-n-test.branch [
+      | else-loop-n-test w ↦ let same : count ≡ n - 1 = omega (arith, c.loop-n.invariant.1, w.loop-n-test.false) in (λ i. tally (same i) (rest bs count (same i) (w.at-is i))) ∙ so_far
+      | then-loop-n-test+in-Some+else-n-count w ↦
+          walk_goes_on bs count n at so_far c.loop-n.auto.n w.loop-n-test.true (item_of w.in-Some.item) w.in-Some.ensures.answer count c.loop-n-test.at (omega arith) (w.at-is ∙ ap (λ k. at + (2 + 5 * k)) w.len.ensures.answer)
+    ] in
+    record { answer = ap verdict_of (walk_leaves_none bs count c.loop-n-test.at all c.if-at-bytes.false) }
