@@ -1,109 +1,48 @@
--- The bits of one number: what `|`, `&`, `!`, `count_ones` and `trailing_zeros` make of them. Assumes nothing.
-use Rattle.std.proofs.Common.{◌≡◌, ℕ, zero, suc, ◌+◌, ◌-◌, ◌/◌, ◌%◌, ◌^◌, ◌<◌, ◌≤◌, Bool, true, false, cond, not, ◌&&◌, ◌||◌, eqb, sym, refl, ap, ◌∙◌, mod-eq_of_lt, pow-suc, arith}
-use native.Mathlib.Nat.{zero-div, div-eq_of_lt}
+-- The bits of one number, as tests of their places. Assumes nothing.
+use Rattle.std.proofs.Common.{◌≡◌, ℕ, zero, suc, ◌+◌, ◌*◌, ◌/◌, ◌%◌, ◌^◌, ◌<◌, ◌≤◌, max, min, true, false, cond, ◌&&◌, ◌||◌, eqb, sym, refl, ap, ◌∙◌, ⊎_elim, mod-eq_of_lt, arith}
+use Rattle.std.specs.Int.{w64, bit_not}
 use lib.Bits.{bit_and, bit_or}
-use lib.Count.{ones, ones_cat, count_trailing_zeros, under}
-use Rattle.std.proofs.lemmas.Nat.{or_shr, or_mod, and_shr, and_mod, mod-pow-add, mod_below, shr-shr, pow_pos, pow_below}
-use Rattle.std.proofs.lemmas.Bool.{ne_eqb}
+use lib.Count.{ones, ones_cat, count_trailing_zeros}
+use Rattle.std.proofs.lemmas.Nat.{mod-pow-add, mod_below, shr-shr, pow_pos}
+use Rattle.std.proofs.lemmas.Nat.Bits.{bit_at-zero, bit_at-lt, bit_at_above, bit_at_or, bit_at_and, bit_at_set_same, bit_at_set_other, bit_at_clear_same, bit_at_clear_other, bit_at-trailing_zeros}
+use Rattle.std.proofs.lemmas.Bool.{cases_eq, eq-eqb, ne_eqb, cond-true, cond-false}
 use Rattle.std.proofs.lemmas.Bool.Decides.{nat_tests}
 use Rattle.marks.specs.Marked.{bit, count_below}
-
--- ---- bit by bit
-
--- bit 0 is the last digit, and bit i + 1 is bit i of the rest
-bit-zero : (x : ℕ) → bit x 0 ≡ eqb (x % 2) 1
-bit-zero x = let e : x / 2 ^ 0 ≡ x = omega arith in ap (λ n. eqb (n % 2) 1) e
-
-bit-suc : (x i : ℕ) → bit x (suc i) ≡ bit (x / 2) i
-bit-suc x i = let e : suc i ≡ 1 + i = omega arith in ap (λ n. eqb (n % 2) 1) (ap (λ k. x / 2 ^ k) e ∙ sym (shr-shr x 1 i))
 
 pub bit_shifted : (x s i : ℕ) → bit (x / 2 ^ s) i ≡ bit x (s + i)
 bit_shifted x s i = ap (λ n. eqb (n % 2) 1) (shr-shr x s i)
 
 pub bit-none : (i : ℕ) → bit 0 i ≡ false
-bit-none i = ap (λ n. eqb (n % 2) 1) (zero-div (2 ^ i))
-
-eqb_suc : (a b : ℕ) → eqb a b ≡ eqb (suc a) (suc b)
-eqb_suc a b = grind (arith, nat_tests)
-
-pub bit-one : (s i : ℕ) → bit (2 ^ s) i ≡ eqb i s
-bit-one zero zero = refl
-bit-one zero (suc i) = bit-suc 1 i ∙ bit-none i ∙ sym (ne_eqb (suc i) 0 (λ e. omega arith))
-bit-one (suc s) zero = bit-zero (2 ^ suc s) ∙ ne_eqb (2 ^ suc s % 2) 1 (λ e. omega (arith, pow-suc 2 s)) ∙ sym (ne_eqb 0 (suc s) (λ e. omega arith))
-bit-one (suc s) (suc i) = let e : 2 ^ suc s / 2 ≡ 2 ^ s = omega (arith, pow-suc 2 s) in bit-suc (2 ^ suc s) i ∙ ap (λ n. bit n i) e ∙ bit-one s i ∙ eqb_suc i s
+bit-none i = ap (λ n. eqb n 1) (bit_at-zero i)
 
 -- a number below 2 ^ k has no bit from k on
 pub bit_past : (w k i : ℕ) → w < 2 ^ k → k ≤ i → bit w i ≡ false
-bit_past w k i h l =
-    let e : i ≡ k + (i - k) = omega arith in
-    ap (bit w) e ∙ sym (bit_shifted w k (i - k)) ∙ ap (λ n. bit n (i - k)) (div-eq_of_lt h) ∙ bit-none (i - k)
+bit_past w k i h l = ap (λ n. eqb n 1) (bit_at_above w k i h l)
 
--- ---- `|`, `&` and `!`
+-- ---- `|` and `&`
 
-or_digit : (x y : ℕ) → x < 2 → y < 2 → eqb (bit_or x y) 1 ≡ (eqb x 1 || eqb y 1)
-or_digit zero zero h k = refl
-or_digit zero (suc zero) h k = refl
-or_digit (suc zero) zero h k = refl
-or_digit (suc zero) (suc zero) h k = refl
-or_digit (suc (suc x)) y h k = absurd (omega arith)
-or_digit zero (suc (suc y)) h k = absurd (omega arith)
-or_digit (suc zero) (suc (suc y)) h k = absurd (omega arith)
+of_max : (x y : ℕ) → x < 2 → y < 2 → eqb (max x y) 1 ≡ (eqb x 1 || eqb y 1)
+of_max x y h k = grind (arith, nat_tests)
 
-and_digit : (x y : ℕ) → x < 2 → y < 2 → eqb (bit_and x y) 1 ≡ (eqb x 1 && eqb y 1)
-and_digit zero zero h k = refl
-and_digit zero (suc zero) h k = refl
-and_digit (suc zero) zero h k = refl
-and_digit (suc zero) (suc zero) h k = refl
-and_digit (suc (suc x)) y h k = absurd (omega arith)
-and_digit zero (suc (suc y)) h k = absurd (omega arith)
-and_digit (suc zero) (suc (suc y)) h k = absurd (omega arith)
+of_min : (x y : ℕ) → x < 2 → y < 2 → eqb (min x y) 1 ≡ (eqb x 1 && eqb y 1)
+of_min x y h k = grind (arith, nat_tests)
 
 pub bit-or : (a b i : ℕ) → bit (bit_or a b) i ≡ (bit a i || bit b i)
-bit-or a b i =
-    ap (λ n. eqb n 1) (ap (λ n. n % 2) (or_shr a b i) ∙ or_mod (a / 2 ^ i) (b / 2 ^ i) 1)
-    ∙ or_digit (a / 2 ^ i % 2) (b / 2 ^ i % 2) (omega arith) (omega arith)
+bit-or a b i = ap (λ n. eqb n 1) (bit_at_or a b i) ∙ of_max _ _ (bit_at-lt a i) (bit_at-lt b i)
 
 pub bit-and : (a b i : ℕ) → bit (bit_and a b) i ≡ (bit a i && bit b i)
-bit-and a b i =
-    ap (λ n. eqb n 1) (ap (λ n. n % 2) (and_shr a b i) ∙ and_mod (a / 2 ^ i) (b / 2 ^ i) 1)
-    ∙ and_digit (a / 2 ^ i % 2) (b / 2 ^ i % 2) (omega arith) (omega arith)
+bit-and a b i = ap (λ n. eqb n 1) (bit_at_and a b i) ∙ of_min _ _ (bit_at-lt a i) (bit_at-lt b i)
 
-flip_digit : (x y : ℕ) → x + y ≡ 1 → eqb x 1 ≡ not (eqb y 1)
-flip_digit zero zero e = absurd (omega arith)
-flip_digit zero (suc zero) e = refl
-flip_digit zero (suc (suc y)) e = absurd (omega arith)
-flip_digit (suc zero) zero e = refl
-flip_digit (suc zero) (suc y) e = absurd (omega arith)
-flip_digit (suc (suc x)) y e = absurd (omega arith)
+-- setting bit s of a word, and clearing it, change that bit alone
+pub bit-set : (w s i : ℕ) → s < 64 → bit (bit_or w (1 * 2 ^ s % 2 ^ 64)) i ≡ cond (eqb i s) true (bit w i)
+bit-set w s i h =
+    ⊎_elim (λ q. ap (bit (bit_or w (1 * 2 ^ s % 2 ^ 64))) q ∙ ap (λ n. eqb n 1) (bit_at_set_same w64 w s h) ∙ sym (cond-true _ _ _ (eq-eqb i s q)))
+    (λ ne. ap (λ n. eqb n 1) (bit_at_set_other w64 w s h i ne) ∙ sym (cond-false _ _ _ (ne_eqb i s ne))) (cases_eq i s)
 
--- the complement in k bits
-pub bit_not : (k x i : ℕ) → x < 2 ^ k → i < k → bit ((2 ^ k - 1) - x) i ≡ not (bit x i)
-bit_not zero x i h l = absurd (omega arith)
-bit_not (suc k) x zero h l =
-    bit-zero ((2 ^ suc k - 1) - x) ∙ flip_digit (((2 ^ suc k - 1) - x) % 2) (x % 2) (omega (arith, pow-suc 2 k)) ∙ ap not (sym (bit-zero x))
-bit_not (suc k) x (suc i) h l =
-    let e : ((2 ^ suc k - 1) - x) / 2 ≡ (2 ^ k - 1) - x / 2 = omega (arith, pow-suc 2 k) in
-    bit-suc ((2 ^ suc k - 1) - x) i ∙ ap (λ n. bit n i) e ∙ bit_not k (x / 2) i (omega (arith, pow-suc 2 k)) (omega arith) ∙ ap not (sym (bit-suc x i))
-
--- setting bit s, and clearing it, change that bit alone
-pub bit-set : (w s i : ℕ) → bit (bit_or w (2 ^ s)) i ≡ cond (eqb i s) true (bit w i)
-bit-set w s i = bit-or w (2 ^ s) i ∙ ap (λ b. bit w i || b) (bit-one s i) ∙ turned_on (bit w i) (eqb i s)
-  where
-    turned_on : (x e : Bool) → (x || e) ≡ cond e true x
-    turned_on true true = refl
-    turned_on true false = refl
-    turned_on false true = refl
-    turned_on false false = refl
-
-pub bit-clear : (k w s i : ℕ) → s < k → i < k → bit (bit_and w ((2 ^ k - 1) - 2 ^ s)) i ≡ cond (eqb i s) false (bit w i)
-bit-clear k w s i h l =
-    bit-and w ((2 ^ k - 1) - 2 ^ s) i ∙ ap (λ b. bit w i && b) (bit_not k (2 ^ s) i (pow_below s k h) l ∙ ap not (bit-one s i)) ∙ turned_off (bit w i) (eqb i s)
-  where
-    turned_off : (x e : Bool) → (x && not e) ≡ cond e false x
-    turned_off true true = refl
-    turned_off true false = refl
-    turned_off false true = refl
-    turned_off false false = refl
+pub bit-clear : (w s i : ℕ) → s < 64 → i < 64 → bit (bit_and w (bit_not w64 (1 * 2 ^ s % 2 ^ 64))) i ≡ cond (eqb i s) false (bit w i)
+bit-clear w s i h l =
+    ⊎_elim (λ q. ap (bit (bit_and w (bit_not w64 (1 * 2 ^ s % 2 ^ 64)))) q ∙ ap (λ n. eqb n 1) (bit_at_clear_same w64 w s h) ∙ sym (cond-true _ _ _ (eq-eqb i s q)))
+    (λ ne. ap (λ n. eqb n 1) (bit_at_clear_other w64 w s h i l ne) ∙ sym (cond-false _ _ _ (ne_eqb i s ne))) (cases_eq i s)
 
 -- ---- `count_ones`
 
@@ -128,27 +67,13 @@ ones_are_bits w n h = ap ones (sym (mod-eq_of_lt h)) ∙ low_ones w n
 
 -- ---- `trailing_zeros`
 
--- the zeros below a number's lowest set bit stop at that bit
-pub record LowestBit (k x t : ℕ) : Type 0 where
-  pub within : t < k
+-- the zeros below a word's lowest set bit stop at that bit
+pub record LowestBit (x t : ℕ) : Type 0 where
+  pub within : t < 64
   pub is_set : bit x t ≡ true
   pub below : (i : ℕ) → i < t → bit x i ≡ false
 
-lowest_step : (k x d t : ℕ) → x % 2 ≡ d → d < 2 → (d ≡ 0 → LowestBit k (x / 2) t) → LowestBit (suc k) x (under d t)
-lowest_step k x zero t e h rest =
-    let r = rest refl in
-    let none_here : bit x 0 ≡ false = bit-zero x ∙ ap (λ n. eqb n 1) e in
-    let low : (i : ℕ) → i < suc t → bit x i ≡ false = λ i. lower i none_here r.below in
-    record { within = omega (arith, r.within); is_set = bit-suc x t ∙ r.is_set; below = low }
-  where
-    lower : (i : ℕ) → bit x 0 ≡ false → ((j : ℕ) → j < t → bit (x / 2) j ≡ false) → i < suc t → bit x i ≡ false
-    lower zero z f l = z
-    lower (suc i) z f l = bit-suc x i ∙ f i (omega arith)
-lowest_step k x (suc zero) t e h rest = record { within = omega arith; is_set = bit-zero x ∙ ap (λ n. eqb n 1) e; below = λ i l. absurd (omega arith) }
-lowest_step k x (suc (suc d)) t e h rest = absurd (omega arith)
-
-pub trailing_lowest : (k x : ℕ) → 0 < x → x < 2 ^ k → LowestBit k x (count_trailing_zeros k x)
-unfolding count_trailing_zeros
-trailing_lowest zero x p h = absurd (omega arith)
-trailing_lowest (suc k) x p h =
-    lowest_step k x (x % 2) (count_trailing_zeros k (x / 2)) refl (omega arith) (λ e. trailing_lowest k (x / 2) (omega arith) (omega (arith, pow-suc 2 k)))
+pub trailing_lowest : (x : ℕ) → 0 < x → x < 2 ^ 64 → LowestBit x (count_trailing_zeros 64 x)
+trailing_lowest x p h =
+    let low = bit_at-trailing_zeros w64 x p h in
+    record { within = low.0; is_set = ap (λ n. eqb n 1) low.1; below = λ i l. ap (λ n. eqb n 1) (low.2 i l) }

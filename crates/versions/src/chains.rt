@@ -11,6 +11,7 @@ const MOST_VERSIONS: usize = 2048;
 
 // Every link leads to a version that came into the pool before; the chain's end is the value at the start.
 // The links are indices into one pool, and no boxes: all memory is reserved before the board opens, so that a commit cannot fail.
+// `start` is the caller's array as it came and is never written, so it stands beside `newest` and is not copied into pairs with it.
 #[derive(Drop)]
 pub struct Chains {
     start: [u32; 128],

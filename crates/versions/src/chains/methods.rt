@@ -51,7 +51,7 @@ impl Chains {
         )
     }
 
-    // The value that came from the commit of this count, or from the last one before it that wrote; none where there is no such object.
+    // The value of the newest version that came from the commit of this count or from one before it; none where there is no such object.
     pub fn seen(&self, object: usize, count: u32) -> Option<u32>
         ensures { result ≡ cond (nat_lt object 128) (Some (seen (versions_of self.now object) count)) None }
     {

@@ -1,7 +1,5 @@
 -- Setting or clearing one bit of one word changes that object's mark alone.
-use Rattle.std.proofs.Common.{◌≡◌, ℕ, ◌-◌, ◌/◌, ◌%◌, ◌^◌, ◌<◌, cond, eqb, get_or, sym, ap, ◌∙◌, arith}
-use lib.Bits.{bit_and, bit_or}
-use Rattle.std.proofs.lemmas.Nat.{one_shl}
+use Rattle.std.proofs.Common.{◌≡◌, ℕ, ◌/◌, ◌%◌, ◌<◌, cond, eqb, get_or, sym, ap, ◌∙◌, arith}
 use Rattle.std.proofs.lemmas.List.{length-set}
 use Rattle.marks.specs.Marked.{bit}
 use Rattle.marks.proofs.Bits.{bit-set, bit-clear}
@@ -15,11 +13,10 @@ returns-after-on c =
     let j = c.args.object in
     let s = j % 64 in
     let w = get_or m.words (j / 64) 0 in
-    let one = one_shl s 64 (omega arith) in
     let bits : (i : ℕ) → i < 64 → bit c.if-on.self i ≡ cond (eqb i s) c.args.on (bit w i) =
     λ i h.
     elim c.if-on.branch [
-      | then-on t ↦ ap (λ x. bit x i) (t.self-is ∙ ap (bit_or w) one) ∙ bit-set w s i ∙ ap (λ b. cond (eqb i s) b (bit w i)) (sym t.if-on.true)
-      | else-on t ↦ ap (λ x. bit x i) (t.self-is ∙ ap (λ n. bit_and w ((2 ^ 64 - 1) - n)) one) ∙ bit-clear 64 w s i (omega arith) h ∙ ap (λ b. cond (eqb i s) b (bit w i)) (sym t.if-on.false)
+      | then-on t ↦ ap (λ x. bit x i) t.self-is ∙ bit-set w s i (omega arith) ∙ ap (λ b. cond (eqb i s) b (bit w i)) (sym t.if-on.true)
+      | else-on t ↦ ap (λ x. bit x i) t.self-is ∙ bit-clear w s i (omega arith) h ∙ ap (λ b. cond (eqb i s) b (bit w i)) (sym t.if-on.false)
     ] in
     record { after = in_its_words _ (omega (arith, length-set m.words (j / 64) c.if-on.self)) ∙ puts_that_mark_alone m (omega arith) j c.if-on.self c.args.on (omega arith) bits }
