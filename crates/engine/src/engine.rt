@@ -28,6 +28,7 @@ pub struct Engine<B: Bank> {
 
 impl<B: Bank> Engine<B> {
     /// A middleware that is not opened; where there is no memory, the bank comes back.
+    #[tactic(auto, unfolding(crate::specs::Seen::is_started, crate::specs::Seen::start_read))]
     pub fn new(heap: Global, bank: B) -> Result<Engine<B>, B>
         ensures made { MatchResult result (λ m. seen B.Bank.stores m ≡ record { opened = false; start = replicate 128 0; stores = B.Bank.stores bank; txns = []; sets = [] }) (λ b. b ≡ bank) }
     {

@@ -21,6 +21,7 @@ pub(crate) fn object(j: u32) -> Result<usize, Reason>
 
 impl<B: Bank> Engine<B> {
     // The starting board of an opened bank: 20.
+    #[tactic(auto, unfolding(crate::specs::Seen::is_started, crate::specs::Seen::start_read))]
     pub(crate) fn opened(&self) -> Result<&[u32; 128], Reason>
         ensures answer { MatchResult result (λ start. ((seen B.Bank.stores self.now).opened ≡ true) × (start.now ≡ (seen B.Bank.stores self.now).start)) (λ e. ((seen B.Bank.stores self.now).opened ≡ false) × (e ≡ Reason.NotOpened)) }
     {

@@ -52,6 +52,7 @@ fn may_open<B: Bank>(bank: &B) -> Result<[u32; 128], Reason>
 
 impl<B: Bank> Engine<B> {
     /// Opens the bank for calls.
+    #[tactic(auto, unfolding(crate::specs::Seen::is_started, crate::specs::Seen::start_read))]
     pub fn open(&mut self) -> Result<(), Reason>
         ensures answer { result ≡ (opening (seen B.Bank.stores self.old)).answer }
         ensures after { seen B.Bank.stores self.new ≡ (opening (seen B.Bank.stores self.old)).after }
