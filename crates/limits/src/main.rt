@@ -3,7 +3,7 @@
 
 use anyhow::anyhow;
 use calls::Call;
-use middleware::{Answer, Unrun, run_queue};
+use middleware::{Unrun, run_queue};
 use shop::empty_bank;
 use std::alloc::{AllocError, Global};
 
@@ -57,41 +57,19 @@ fn queue(heap: Global) -> Result<Vec<Call>, AllocError> {
     Ok(queue)
 }
 
-fn print(rt: &HostRuntime, answer: &Answer) -> anyhow::Result<()> {
-    match answer {
-        Answer::Done => println!(rt; "ok")?,
-        Answer::Number(n) => println!(rt; "{n}")?,
-        Answer::ReadOnly => println!(rt; "read-only")?,
-        Answer::Abort(n) => println!(rt; "abort {n}")?,
-        Answer::Refused(fault) => {
-            let reason = fault.reason;
-            println!(rt; "refused: {reason:?}")?
-        }
-        Answer::State(_, s) => println!(rt; "its snapshot has seen {s}")?,
-        Answer::Applied(progress) => {
-            let n = progress.applied;
-            println!(rt; "{n} applied")?
-        }
-        Answer::WriteSet(_) => println!(rt; "a write set")?,
-    }
-    Ok(())
-}
-
 fn main(rt: HostRuntime) -> anyhow::Result<()> {
     let heap = rt.alloc();
     let bank = empty_bank(heap)?;
     let queue = queue(heap)?;
-    match run_queue(heap, bank, &queue) {
-        Ok(run) => {
-            for answer in run.answers.iter().skip(1_022).take(30) {
-                print(&rt, answer)?;
-            }
-            if let Some(answer) = run.answers.last() {
-                print(&rt, answer)?;
-            }
-            Ok(())
-        }
-        Err(Unrun::NoMemory(_)) => Err(anyhow!("no memory")),
-        Err(Unrun::Refused(_, _)) => Err(anyhow!("the opening was refused")),
+    let run = run_queue(heap, bank, &queue).map_err(|unrun| match unrun {
+        Unrun::NoMemory(_) => anyhow!("no memory"),
+        Unrun::Refused(_, _) => anyhow!("the opening was refused"),
+    })?;
+    for answer in run.answers.iter().skip(1_022).take(30) {
+        println!(rt; "{answer}")?;
     }
+    if let Some(answer) = run.answers.last() {
+        println!(rt; "{answer}")?;
+    }
+    Ok(())
 }

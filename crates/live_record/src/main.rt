@@ -1,8 +1,6 @@
 // Opens the shop's bank, numbers write sets from two stations, and prints the run record of the live board: its bytes, and what reads back.
 #![tactic(auto)]
 
-ghost use Rattle.std.specs.Prelude.{◌≤◌, length, IfOk};
-
 use anyhow::anyhow;
 use banks::Bank;
 use calls::Call;
@@ -26,47 +24,39 @@ const CALLS: [Call; 11] = [
     Call::Commit(3),
 ];
 
-// Asks for the record, and prints its bytes or the refusal.
-fn show<B: Bank>(
+// Asks for the record, and prints its bytes or the refusal. Hands out the record, or nothing where it was refused.
+fn show<'a, B: Bank>(
     rt: &HostRuntime,
     board: &Middleware<B>,
-    buffer: &mut [u8],
-) -> anyhow::Result<usize>
-    ensures room { IfOk result (λ n. n ≤ length buffer.new) }
-{
+    buffer: &'a mut [u8],
+) -> anyhow::Result<&'a [u8]> {
     match board.write_record(buffer) {
         Ok(n) => {
+            let record = &buffer[..n];
             print!(rt; "{n} bytes:")?;
-            for byte in buffer.iter().take(n) {
+            for byte in record {
                 print!(rt; " {byte:02x}")?;
             }
             println!(rt; "")?;
-            Ok(n)
+            Ok(record)
         }
         Err(fault) => {
             let reason = fault.reason;
             println!(rt; "refused: {reason:?}")?;
-            Ok(0)
+            Ok(&[])
         }
     }
 }
 
 // Prints the write sets that a record gives.
 fn list(rt: &HostRuntime, heap: Global, bytes: &[u8]) -> anyhow::Result<()> {
-    let (Ok(count), Ok(sets)) = (check(bytes), read(heap, bytes)) else {
-        return Err(anyhow!("no record"));
-    };
+    let count = check(bytes).map_err(|_| anyhow!("no record"))?;
+    let sets = read(heap, bytes).map_err(|_| anyhow!("no record"))?;
     println!(rt; "{count} write sets")?;
     for set in sets.iter() {
-        let home = set.home;
-        let s = set.s;
-        print!(rt; "home {home}, s {s}:")?;
-        for i in 0..set.set.len() {
-            if let Some(pair) = set.set.pair(i) {
-                let object = pair.object;
-                let value = pair.value;
-                print!(rt; " {object} to {value}")?;
-            }
+        print!(rt; "home {}, s {}:", set.home, set.s)?;
+        for pair in set.set.pairs() {
+            print!(rt; " {} to {}", pair.object, pair.value)?;
         }
         println!(rt; "")?;
     }
@@ -76,18 +66,16 @@ fn list(rt: &HostRuntime, heap: Global, bytes: &[u8]) -> anyhow::Result<()> {
 fn main(rt: HostRuntime) -> anyhow::Result<()> {
     let heap = rt.alloc();
     let mut buffer = [0u8; LONGEST];
-    let Ok(mut board) = Middleware::new(heap, empty_bank(heap)?) else {
-        return Err(anyhow!("no memory"));
-    };
+    let mut board = Middleware::new(heap, empty_bank(heap)?).map_err(|_| anyhow!("no memory"))?;
     show(&rt, &board, &mut buffer)?;
-    if board.open().is_err() {
-        return Err(anyhow!("the opening was refused"));
-    }
+    board
+        .open()
+        .map_err(|_| anyhow!("the opening was refused"))?;
     show(&rt, &board, &mut buffer)?;
     for call in CALLS {
         board.call(call);
     }
     show(&rt, &board, &mut [0; 20])?;
-    let n = show(&rt, &board, &mut buffer)?;
-    list(&rt, heap, &buffer[0..n])
+    let record = show(&rt, &board, &mut buffer)?;
+    list(&rt, heap, record)
 }

@@ -4,9 +4,7 @@ use std::test::Fail;
 use tickets::{Board, Pair, WriteSet};
 
 fn one(home: u8, s: u16, object: usize, value: u32) -> Result<NumberedSet, Fail> {
-    let Some(set) = WriteSet::one(Pair { object, value }) else {
-        return Err(Fail::new("no such object"));
-    };
+    let set = WriteSet::one(Pair { object, value }).ok_or_else(|| Fail::new("no such object"))?;
     Ok(NumberedSet { home, s, set })
 }
 
@@ -31,15 +29,11 @@ fn one_write_set(rt: HostRuntime) -> Result<(), Fail> {
     assert_eq!(rt; buffer, FIVE);
     let reader = Reader::new(&FIVE);
     assert_eq!(rt; reader.count(), Ok(1));
-    let Some(item) = reader.item(1) else {
-        return Err(Fail::new("no item 1"));
-    };
+    let item = reader.item(1).ok_or_else(|| Fail::new("no item 1"))?;
     assert_eq!(rt; item.home, 0);
     assert_eq!(rt; item.s, 0);
     assert_eq!(rt; item.set.lookup(0), Some(5));
-    let Some(body) = reader.body(1) else {
-        return Err(Fail::new("no body 1"));
-    };
+    let body = reader.body(1).ok_or_else(|| Fail::new("no body 1"))?;
     assert_eq!(rt; body.at, 6);
     assert_eq!(rt; body.bytes.len(), 7);
     assert!(rt; reader.item(0).is_none() && reader.body(2).is_none());

@@ -17,9 +17,7 @@ fn eight_pairs() -> Option<WriteSet> {
 
 #[test]
 fn the_longest_record(rt: HostRuntime) -> Result<(), Fail> {
-    let Some(set) = eight_pairs() else {
-        return Err(Fail::new("no eight pairs"));
-    };
+    let set = eight_pairs().ok_or_else(|| Fail::new("no eight pairs"))?;
     let mut sets = Vec::new(rt.alloc());
     for n in 0..256u16 {
         sets.push(NumberedSet { home: 7, s: n, set })?;

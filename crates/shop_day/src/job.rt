@@ -56,6 +56,7 @@ fn start<B: Bank>(board: &mut Middleware<B>, job: &Job<'_>) -> Result<Held, Boar
 }
 
 // Asks for the verdict; where that is refused, the transaction is given up.
+// The `Err` arm spends the work that comes back before it hands the fault on, so this is no `map_err`.
 fn finish<B: Bank>(board: &mut Middleware<B>, held: Held) -> Result<Verdict, BoardFault> {
     match held.commit(board) {
         Ok(verdict) => Ok(verdict),

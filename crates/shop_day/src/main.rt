@@ -126,19 +126,9 @@ fn day<B: Bank>(rt: &HostRuntime, board: &mut Middleware<B>) -> anyhow::Result<(
     show_all(rt, board)
 }
 
-fn open<B: Bank>(board: &mut Middleware<B>) -> Result<(), Trouble> {
-    Ok(board.open()?)
-}
-
-fn run(rt: &HostRuntime) -> anyhow::Result<()> {
-    let heap = rt.alloc();
-    let Ok(mut board) = Middleware::new(heap, empty_bank(heap)?) else {
-        return Err(anyhow!("no memory"));
-    };
-    open(&mut board)?;
-    day(rt, &mut board)
-}
-
 fn main(rt: HostRuntime) -> anyhow::Result<()> {
-    run(&rt)
+    let heap = rt.alloc();
+    let mut board = Middleware::new(heap, empty_bank(heap)?).map_err(|_| anyhow!("no memory"))?;
+    board.open().map_err(Trouble::from)?;
+    day(&rt, &mut board)
 }

@@ -7,19 +7,15 @@ use middleware::Middleware;
 
 /// A line for a station's verdict.
 pub fn show_verdict(rt: &HostRuntime, station: u32, verdict: Verdict) -> anyhow::Result<()> {
-    match verdict {
-        Verdict::ReadOnly => println!(rt; "station {station}: nothing written")?,
-        Verdict::Numbered(n) => println!(rt; "station {station}: number {n}")?,
-        Verdict::Clash(n) => println!(rt; "station {station}: clashes with number {n}")?,
-    }
+    println!(rt; "station {station}: {verdict}")?;
     Ok(())
 }
 
 // The fields of a ticket, as a station's own store has them.
 fn fields<B: Bank>(board: &Middleware<B>, station: u32, ticket: u8) -> Result<[u32; 8], Trouble> {
     let mut values = [0; 8];
-    for field in 0..8u8 {
-        values[field as usize] = board.value(station, object(ticket, field))?;
+    for (field, value) in (0..8u8).zip(values.iter_mut()) {
+        *value = board.value(station, object(ticket, field))?;
     }
     Ok(values)
 }

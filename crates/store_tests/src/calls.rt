@@ -23,38 +23,46 @@ pub enum Answer {
     Number(u32),
     Write(Option<Pair>),
     Open(bool),
-    Refused(StoreFault),
+}
+
+#[derive(Clone, Copy, PartialEq, Debug)]
+pub enum Refusal {
+    Store(StoreFault),
     NoReplica,
 }
 
-fn refused(fault: BankFault) -> Answer {
-    match fault {
-        BankFault::NoReplica(_) => Answer::NoReplica,
-        BankFault::At(_, fault) => Answer::Refused(fault),
+impl From<BankFault> for Refusal {
+    fn from(fault: BankFault) -> Refusal {
+        match fault {
+            BankFault::NoReplica(_) => Refusal::NoReplica,
+            BankFault::At(_, fault) => Refusal::Store(fault),
+        }
     }
 }
 
-fn answered<B: Bank>(bank: &mut B, replica: u8, call: Call) -> Result<Answer, BankFault> {
-    match call {
-        Call::Begin(place) => bank.begin(replica, place)?,
-        Call::Read(place, object) => return Ok(Answer::Number(bank.read(replica, place, object)?)),
-        Call::Write(place, object, value) => bank.write(replica, place, object, value)?,
-        Call::OwnCount(place) => return Ok(Answer::Number(bank.own_count(replica, place)?)),
-        Call::OwnFrom(place, object) => return Ok(Answer::Write(bank.own_from(
-            replica, place, object,
-        )?)),
-        Call::Commit(place) => bank.commit(replica, place)?,
-        Call::Abort(place) => bank.abort(replica, place)?,
-        Call::Value(object) => return Ok(Answer::Number(bank.value(replica, object)?)),
-        Call::Commits => return Ok(Answer::Number(bank.commits(replica)?)),
-        Call::IsOpen(place) => return Ok(Answer::Open(bank.is_open(replica, place)?)),
-    }
-    Ok(Answer::Done)
-}
-
-pub fn ask<B: Bank>(bank: &mut B, replica: u8, call: Call) -> Answer {
-    match answered(bank, replica, call) {
-        Ok(answer) => answer,
-        Err(fault) => refused(fault),
-    }
+pub fn ask<B: Bank>(bank: &mut B, replica: u8, call: Call) -> Result<Answer, Refusal> {
+    Ok(match call {
+        Call::Begin(place) => {
+            bank.begin(replica, place)?;
+            Answer::Done
+        }
+        Call::Read(place, object) => Answer::Number(bank.read(replica, place, object)?),
+        Call::Write(place, object, value) => {
+            bank.write(replica, place, object, value)?;
+            Answer::Done
+        }
+        Call::OwnCount(place) => Answer::Number(bank.own_count(replica, place)?),
+        Call::OwnFrom(place, object) => Answer::Write(bank.own_from(replica, place, object)?),
+        Call::Commit(place) => {
+            bank.commit(replica, place)?;
+            Answer::Done
+        }
+        Call::Abort(place) => {
+            bank.abort(replica, place)?;
+            Answer::Done
+        }
+        Call::Value(object) => Answer::Number(bank.value(replica, object)?),
+        Call::Commits => Answer::Number(bank.commits(replica)?),
+        Call::IsOpen(place) => Answer::Open(bank.is_open(replica, place)?),
+    })
 }

@@ -1,5 +1,5 @@
 // The table, and the stores and banks that it is run against.
-use crate::calls::{Answer, Call, ask};
+use crate::calls::{Answer, Call, Refusal, ask};
 use banks::Bank;
 use beside::Beside;
 use copy_store::CopyStore;
@@ -12,60 +12,66 @@ use version_store::VersionStore;
 const ROWS: usize = 36;
 
 // A store of zeros: what each call is answered, one after the other.
-static TABLE: [(Call, Answer); ROWS] = [
-    (Call::Begin(0), Answer::Done),
-    (Call::Begin(0), Answer::Refused(StoreFault::PlaceOpen)),
-    (Call::Begin(16), Answer::Refused(StoreFault::NoPlace)),
-    (Call::Read(1, 5), Answer::Refused(StoreFault::PlaceClosed)),
-    (Call::Read(0, 128), Answer::Refused(StoreFault::NoObject)),
+static TABLE: [(Call, Result<Answer, Refusal>); ROWS] = [
+    (Call::Begin(0), Ok(Answer::Done)),
+    (Call::Begin(0), Err(Refusal::Store(StoreFault::PlaceOpen))),
+    (Call::Begin(16), Err(Refusal::Store(StoreFault::NoPlace))),
+    (
+        Call::Read(1, 5),
+        Err(Refusal::Store(StoreFault::PlaceClosed)),
+    ),
+    (
+        Call::Read(0, 128),
+        Err(Refusal::Store(StoreFault::NoObject)),
+    ),
     (
         Call::Write(0, 128, 1),
-        Answer::Refused(StoreFault::NoObject),
+        Err(Refusal::Store(StoreFault::NoObject)),
     ),
-    (Call::Write(0, 5, 7), Answer::Done),
-    (Call::Read(0, 5), Answer::Number(7)),
-    (Call::Value(5), Answer::Number(0)),
-    (Call::Write(0, 15, 1), Answer::Done),
-    (Call::Write(0, 25, 2), Answer::Done),
-    (Call::Write(0, 35, 3), Answer::Done),
-    (Call::Write(0, 45, 4), Answer::Done),
-    (Call::Write(0, 55, 5), Answer::Done),
-    (Call::Write(0, 65, 6), Answer::Done),
-    (Call::Write(0, 75, 7), Answer::Done),
+    (Call::Write(0, 5, 7), Ok(Answer::Done)),
+    (Call::Read(0, 5), Ok(Answer::Number(7))),
+    (Call::Value(5), Ok(Answer::Number(0))),
+    (Call::Write(0, 15, 1), Ok(Answer::Done)),
+    (Call::Write(0, 25, 2), Ok(Answer::Done)),
+    (Call::Write(0, 35, 3), Ok(Answer::Done)),
+    (Call::Write(0, 45, 4), Ok(Answer::Done)),
+    (Call::Write(0, 55, 5), Ok(Answer::Done)),
+    (Call::Write(0, 65, 6), Ok(Answer::Done)),
+    (Call::Write(0, 75, 7), Ok(Answer::Done)),
     (
         Call::Write(0, 85, 8),
-        Answer::Refused(StoreFault::NinthObject),
+        Err(Refusal::Store(StoreFault::NinthObject)),
     ),
-    (Call::Write(0, 75, 9), Answer::Done),
-    (Call::OwnCount(0), Answer::Number(8)),
+    (Call::Write(0, 75, 9), Ok(Answer::Done)),
+    (Call::OwnCount(0), Ok(Answer::Number(8))),
     (
         Call::OwnFrom(0, 66),
-        Answer::Write(Some(Pair {
+        Ok(Answer::Write(Some(Pair {
             object: 75,
             value: 9,
-        })),
+        }))),
     ),
-    (Call::OwnFrom(0, 76), Answer::Write(None)),
-    (Call::Begin(1), Answer::Done),
-    (Call::Write(1, 5, 9), Answer::Done),
-    (Call::Commit(1), Answer::Done),
-    (Call::Value(5), Answer::Number(9)),
-    (Call::Commits, Answer::Number(1)),
-    (Call::IsOpen(1), Answer::Open(false)),
-    (Call::Read(0, 5), Answer::Number(7)),
-    (Call::Commit(0), Answer::Refused(StoreFault::Overtaken)),
-    (Call::IsOpen(0), Answer::Open(false)),
-    (Call::Value(15), Answer::Number(0)),
-    (Call::Begin(2), Answer::Done),
-    (Call::Commit(2), Answer::Done),
-    (Call::Commits, Answer::Number(1)),
-    (Call::Abort(2), Answer::Refused(StoreFault::PlaceClosed)),
-    (Call::IsOpen(16), Answer::Refused(StoreFault::NoPlace)),
+    (Call::OwnFrom(0, 76), Ok(Answer::Write(None))),
+    (Call::Begin(1), Ok(Answer::Done)),
+    (Call::Write(1, 5, 9), Ok(Answer::Done)),
+    (Call::Commit(1), Ok(Answer::Done)),
+    (Call::Value(5), Ok(Answer::Number(9))),
+    (Call::Commits, Ok(Answer::Number(1))),
+    (Call::IsOpen(1), Ok(Answer::Open(false))),
+    (Call::Read(0, 5), Ok(Answer::Number(7))),
+    (Call::Commit(0), Err(Refusal::Store(StoreFault::Overtaken))),
+    (Call::IsOpen(0), Ok(Answer::Open(false))),
+    (Call::Value(15), Ok(Answer::Number(0))),
+    (Call::Begin(2), Ok(Answer::Done)),
+    (Call::Commit(2), Ok(Answer::Done)),
+    (Call::Commits, Ok(Answer::Number(1))),
+    (Call::Abort(2), Err(Refusal::Store(StoreFault::PlaceClosed))),
+    (Call::IsOpen(16), Err(Refusal::Store(StoreFault::NoPlace))),
 ];
 
 fn run<B: Bank>(rt: &impl Abort, bank: &mut B, replica: u8) {
-    for row in &TABLE {
-        assert_eq!(rt; ask(bank, replica, row.0), row.1);
+    for (call, answer) in &TABLE {
+        assert_eq!(rt; ask(bank, replica, *call), *answer);
     }
 }
 
@@ -73,7 +79,7 @@ fn run<B: Bank>(rt: &impl Abort, bank: &mut B, replica: u8) {
 fn a_version_store(rt: HostRuntime) -> Result<(), Fail> {
     let mut store = VersionStore::new(rt.alloc(), [0; 128])?;
     run(&rt, &mut store, 0);
-    assert_eq!(rt; ask(&mut store, 1, Call::Commits), Answer::NoReplica);
+    assert_eq!(rt; ask(&mut store, 1, Call::Commits), Err(Refusal::NoReplica));
     Ok(())
 }
 
@@ -81,7 +87,7 @@ fn a_version_store(rt: HostRuntime) -> Result<(), Fail> {
 fn a_copy_store(rt: HostRuntime) {
     let mut store = CopyStore::new([0; 128]);
     run(&rt, &mut store, 0);
-    assert_eq!(rt; ask(&mut store, 1, Call::Commits), Answer::NoReplica);
+    assert_eq!(rt; ask(&mut store, 1, Call::Commits), Err(Refusal::NoReplica));
 }
 
 // The calls at one replica leave the others as they were.
@@ -97,9 +103,12 @@ fn a_nested_bank(rt: HostRuntime) -> Result<(), Fail> {
     };
     assert_eq!(rt; bank.count(), 3);
     for replica in 0..3 {
-        assert_eq!(rt; ask(&mut bank, replica, Call::Commits), Answer::Number(0));
+        assert_eq!(rt;
+            ask(&mut bank, replica, Call::Commits),
+            Ok(Answer::Number(0))
+        );
         run(&rt, &mut bank, replica);
     }
-    assert_eq!(rt; ask(&mut bank, 3, Call::Commits), Answer::NoReplica);
+    assert_eq!(rt; ask(&mut bank, 3, Call::Commits), Err(Refusal::NoReplica));
     Ok(())
 }

@@ -5,7 +5,7 @@ use anyhow::anyhow;
 use calls::Call;
 use ledger::TransactionState;
 use machine::Reason;
-use middleware::{Answer, Unrun, run_queue};
+use middleware::{Unrun, run_queue};
 use shop::empty_bank;
 
 const QUEUE: [Call; 19] = [
@@ -30,32 +30,15 @@ const QUEUE: [Call; 19] = [
     Call::Value(1, 1),
 ];
 
-fn print(rt: &HostRuntime, answer: &Answer) -> anyhow::Result<()> {
-    match answer {
-        Answer::Done => println!(rt; "ok")?,
-        Answer::Number(n) => println!(rt; "{n}")?,
-        Answer::ReadOnly => println!(rt; "read-only")?,
-        Answer::Abort(n) => println!(rt; "abort {n}")?,
-        Answer::Refused(fault) => {
-            let reason = fault.reason;
-            println!(rt; "refused: {reason:?}")?
-        }
-        _ => println!(rt; "a question's answer")?,
-    }
-    Ok(())
-}
-
 fn main(rt: HostRuntime) -> anyhow::Result<()> {
     let heap = rt.alloc();
     let bank = empty_bank(heap)?;
-    match run_queue(heap, bank, &QUEUE) {
-        Ok(run) => {
-            for answer in run.answers.iter() {
-                print(&rt, answer)?;
-            }
-            Ok(())
-        }
-        Err(Unrun::NoMemory(_)) => Err(anyhow!("no memory")),
-        Err(Unrun::Refused(_, _)) => Err(anyhow!("the opening was refused")),
+    let run = run_queue(heap, bank, &QUEUE).map_err(|unrun| match unrun {
+        Unrun::NoMemory(_) => anyhow!("no memory"),
+        Unrun::Refused(_, _) => anyhow!("the opening was refused"),
+    })?;
+    for answer in run.answers.iter() {
+        println!(rt; "{answer}")?;
     }
+    Ok(())
 }
