@@ -1,3 +1,2 @@
 mod Writes
-mod Turns
-mod Seated
+mod Plays

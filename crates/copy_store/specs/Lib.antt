@@ -1,3 +1,3 @@
 pub mod Places
 pub mod Copied
-pub mod Kept
+pub mod Lawful

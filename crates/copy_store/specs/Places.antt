@@ -1,5 +1,5 @@
 -- What a place of a copy store means.
-use Rattle.std.specs.Prelude.{ℕ, cond, Some, None, Option, slice_index}
+use Rattle.std.specs.Prelude.{ℕ, cond, Some, None, Option, option_map, slice_index}
 use Rattle.marks.specs.Marked.{marked}
 use Rattle.stores.specs.Model as model
 use Rattle.copy_store.specs.declared.place.Place.{Place}
@@ -14,8 +14,7 @@ place_of pl = record { snapshot = pl.snapshot; own = own_of pl; overtaken = mark
 
 -- an open place, or none
 abbrev pub seat_of : Option Place → Option model.Place
-seat_of (Some pl) = Some (place_of pl)
-seat_of None = None
+seat_of = option_map place_of
 
 -- how many objects are written at it
 abbrev pub own_writes : Option Place → ℕ

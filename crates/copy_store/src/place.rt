@@ -1,5 +1,5 @@
 // An open place: the board at its begin, the values that it wrote itself, which objects it wrote, and which others overwrote since.
-ghost use Rattle.std.specs.Prelude.{◌≡◌, ◌-◌, ◌≤◌, ◌||◌, length, Some, nat_lt};
+ghost use Rattle.std.specs.Prelude.{◌≡◌, ◌-◌, ◌≤◌, ◌||◌, Some, nat_lt};
 ghost use Rattle.marks.specs.Marked.{marked};
 ghost use Rattle.stores.specs.Model.{fresh, read_at, write_at, done, kept, written, own_count, first_from, clashes, overtaken_by, played};
 ghost use Rattle.copy_store.specs.Places.{place_of, own_of};
@@ -14,6 +14,8 @@ const MOST_WRITES: u32 = 8;
 #[derive(Clone, Copy)]
 pub struct Place {
     snapshot: [u32; OBJECTS],
+    // the values, beside the marks of which of them count: marks answer a count, a clash and the lowest in two words, where an
+    // array of options would be walked
     own: [u32; OBJECTS],
     wrote: Marks,
     overtaken: Marks,
@@ -36,14 +38,12 @@ impl Place {
     pub fn read(&self, object: usize) -> Result<u32, StoreFault>
         ensures answer { result ≡ read_at object (place_of self.now) }
     {
-        if object >= OBJECTS {
-            return Err(StoreFault::NoObject);
-        }
-        if self.wrote.has(object) {
-            Ok(self.own[object])
+        let values = if self.wrote.has(object) {
+            &self.own
         } else {
-            Ok(self.snapshot[object])
-        }
+            &self.snapshot
+        };
+        values.get(object).copied().ok_or(StoreFault::NoObject)
     }
 
     // Whether it may write an object: one that it wrote before, or at most the eighth.
@@ -81,13 +81,11 @@ impl Place {
     pub fn own_from(&self, object: usize) -> Option<Pair>
         ensures answer { result ≡ first_from (own_of self.now) object (128 - object) }
     {
-        match self.wrote.lowest_from(object) {
-            Some(object) => Some(Pair {
-                object,
-                value: self.own[object],
-            }),
-            None => None,
-        }
+        let object = self.wrote.lowest_from(object)?;
+        Some(Pair {
+            object,
+            value: self.own[object],
+        })
     }
 
     /// Whether it wrote an object that others have overwritten since its begin.
@@ -112,14 +110,11 @@ impl Place {
     }
 
     /// Plays its own writes over a board.
-    pub fn play(&self, board: &mut [u32])
-        requires { length board.old ≡ 128 }
+    pub fn play(&self, board: &mut [u32; OBJECTS])
         ensures after { board.new ≡ played (own_of self.now) board.old }
     {
-        let mut from = 0;
-        while let Some(object) = self.wrote.lowest_from(from) {
+        for object in self.wrote.iter() {
             board[object] = self.own[object];
-            from = object + 1;
         }
     }
 }

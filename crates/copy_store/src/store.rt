@@ -1,8 +1,10 @@
 // The copy store: the current board, the count of commits that wrote, and sixteen places, open or not.
 ghost use Rattle.std.specs.Prelude.{◌≡◌, ℕ, ◌≤◌, length, None, slice_index_or};
+ghost use Rattle.stores.specs.Seated.{seats_of};
 ghost use Rattle.copy_store.specs.Places.{own_writes};
 
 use crate::place::Place;
+use stores::Seats;
 use tickets::OBJECTS;
 
 mod calls;
@@ -11,15 +13,12 @@ mod methods;
 // The most commits that write.
 pub const MOST: u32 = 65_535;
 
-pub const PLACES: usize = 16;
-
 #[derive(Drop)]
 pub struct CopyStore {
     board: [u32; OBJECTS],
     commits: u32,
-    places: [Option<Place>; PLACES],
+    places: Seats<Place>,
     ghost whole: { length board ≡ 128 },
-    ghost sixteen: { length places ≡ 16 },
     ghost within: { commits ≤ 65535 },
-    ghost few: { (p : ℕ) → own_writes (slice_index_or places p None) ≤ 8 },
+    ghost few: { (p : ℕ) → own_writes (slice_index_or (seats_of places) p None) ≤ 8 },
 }

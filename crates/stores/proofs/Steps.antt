@@ -1,24 +1,20 @@
 -- What an implementation of a store needs of its meaning. Assumes nothing.
-use Rattle.std.proofs.Common.{◌≡◌, ℕ, zero, suc, ◌+◌, ◌<◌, Bool, true, false, cond, eqb, ltb, List, [], ◌∷◌, length, get_or, set, Some, None, Ok, Err, Option, Result, sym, refl, ap, ◌∙◌, arith}
+use Rattle.std.proofs.Common.{◌≡◌, ℕ, zero, suc, ◌+◌, ◌<◌, true, false, eqb, List, [], ◌∷◌, length, get_or, set, Some, None, Ok, Err, Option, Result, sym, refl, ap, ◌∙◌, arith}
 use Rattle.std.proofs.lemmas.Bool.{eq-eqb, ne_eqb}
 use Rattle.std.proofs.lemmas.List.{set-get_or}
 use Rattle.stores.specs.declared.fault.StoreFault.{StoreFault}
-use Rattle.stores.specs.declared.fault.StoreFault.TheVariants.{NoPlace, Overtaken}
-use Rattle.stores.specs.Model.{StoreModel, Place, place_at, held, with_place, leaves, kept, write_at, write_after, bind, or_else, played, played_from, own_count, clashes, commit_answer, commit_after, landed}
-
-seated : (b : Bool) (o : Option Place) (x : Place) → cond b (held o) (Err NoPlace) ≡ Ok x → o ≡ Some x
-seated true (Some y) x e = cc
-seated true None x e = let z : ◌≡◌ {A = ℕ} 0 1 = cc in absurd (omega arith)
-seated false o x e = let z : ◌≡◌ {A = ℕ} 0 1 = cc in absurd (omega arith)
+use Rattle.stores.specs.declared.fault.StoreFault.TheVariants.{Overtaken}
+use Rattle.stores.specs.Model.{StoreModel, Place, place_at, with_place, leaves, kept, write_at, write_after, bind, or_else, played, played_from, own_count, clashes, commit_answer, commit_after, landed}
+use Rattle.stores.proofs.Seated.{held_is}
 
 pub seat_has : (m : StoreModel) (p : ℕ) (x : Place) → place_at m p ≡ Ok x → get_or m.places p None ≡ Some x
-seat_has m p x e = seated (ltb p (length m.places)) (get_or m.places p None) x e
+seat_has m p x e = held_is m.places p x e
 
 -- a place put back as it was
 pub same_place : (m : StoreModel) (p : ℕ) (o : Option Place) → get_or m.places p None ≡ o → with_place m p o ≡ m
 same_place m p o e = ap (λ ps. record { board = m.board; commits = m.commits; most = m.most; places = ps }) (ap (set m.places p) (sym e) ∙ set-get_or m.places p None)
 
-kept_leaves : (m : StoreModel) (p : ℕ) (x : Place) (r : Result Place StoreFault) → with_place m p (Some x) ≡ m → with_place m p (Some (kept r x)) ≡ leaves r (λ pl. with_place m p (Some pl)) m
+pub kept_leaves : (m : StoreModel) (p : ℕ) (x : Place) (r : Result Place StoreFault) → with_place m p (Some x) ≡ m → with_place m p (Some (kept r x)) ≡ leaves r (λ pl. with_place m p (Some pl)) m
 kept_leaves m p x (Ok y) e = refl
 kept_leaves m p x (Err f) e = e
 

@@ -92,16 +92,22 @@ kept (Err e) old = old
 
 -- ---- places
 
-abbrev pub held : Option Place → Result Place StoreFault
+-- what stands in a seat that is open
+abbrev pub held : {P : Type 0} → Option P → Result P StoreFault
 held (Some pl) = Ok pl
 held None = Err PlaceClosed
 
-abbrev pub vacant : Option Place → Result (Unit {0}) StoreFault
+-- that a seat is not open
+abbrev pub vacant : {P : Type 0} → Option P → Result (Unit {0}) StoreFault
 vacant (Some pl) = Err PlaceOpen
 vacant None = Ok tt
 
+-- `f`'s answer at the seat of a place; past the last seat there is no place
+abbrev pub seat_in : {P A : Type 0} → List (Option P) → ℕ → (Option P → Result A StoreFault) → Result A StoreFault
+seat_in seats p f = cond (nat_lt p (length seats)) (f (slice_index_or seats p None)) (Err NoPlace)
+
 abbrev pub seat_at : {A : Type 0} → StoreModel → ℕ → (Option Place → Result A StoreFault) → Result A StoreFault
-seat_at m p f = cond (nat_lt p (length m.places)) (f (slice_index_or m.places p None)) (Err NoPlace)
+seat_at m p f = seat_in m.places p f
 
 abbrev pub place_at : StoreModel → ℕ → Result Place StoreFault
 place_at m p = seat_at m p held

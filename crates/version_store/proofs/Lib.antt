@@ -1,2 +1,3 @@
-pub mod Seated
+pub mod Written
+pub mod ReadBack
 pub mod Landing

@@ -1,3 +1,3 @@
 pub mod Begun
 pub mod Meaning
-pub mod VersionStoreStoreLemmas
+pub mod Lawful

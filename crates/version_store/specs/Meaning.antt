@@ -1,7 +1,8 @@
 -- What a version store means.
-use Rattle.std.specs.Prelude.{List, map, Some, None, Option}
+use Rattle.std.specs.Prelude.{List, map, Option, option_map}
 use Rattle.stores.specs.Model as model
 use Rattle.stores.specs.Model.{StoreModel}
+use Rattle.stores.specs.Seated.{seats_of}
 use Rattle.versions.specs.Writes.{own_of}
 use Rattle.versions.specs.Histories.{board_at, written_since}
 use Rattle.versions.specs.Meaning.{HistoryModel, history_of}
@@ -14,8 +15,7 @@ place_of h pl = record { snapshot = board_at h.versions pl.begun; own = own_of p
 
 -- a closed place means nothing
 abbrev pub seat_of : HistoryModel → Option Place → Option model.Place
-seat_of h (Some pl) = Some (place_of h pl)
-seat_of h None = None
+seat_of h = option_map (place_of h)
 
 -- the board after the last commit, with these places over it
 abbrev pub store_over : HistoryModel → List (Option Place) → StoreModel
@@ -23,4 +23,4 @@ store_over h places = record { board = board_at h.versions h.commits; commits = 
 
 -- a store means its history with its places over it
 abbrev pub meaning_of : VersionStore → StoreModel
-meaning_of s = store_over (history_of s.history) s.places
+meaning_of s = store_over (history_of s.history) (seats_of s.places)

@@ -1,32 +1,20 @@
 // The calls of a store, as the copy store does them. Reads, writes and questions touch a place where it lies.
 ghost use Rattle.copy_store.specs.Copied.{meaning_of};
-ghost use Rattle.std.proofs.Common.{arith};
-ghost use Rattle.std.proofs.lemmas.List.{length-map};
-ghost use Rattle.copy_store.specs.Places.{seat_of};
-ghost use Rattle.copy_store.specs.Kept.{seats_lawful};
+ghost use Rattle.copy_store.specs.Lawful.{store_lawful};
 
-use crate::store::{CopyStore, PLACES};
+use crate::place::Place;
+use crate::store::CopyStore;
 use stores::{Store, StoreFault};
-use tickets::{OBJECTS, Pair};
+use tickets::Pair;
 
 impl Store for CopyStore {
     ghost meaning = { meaning_of };
 
-    ghost lawful = { λ s.
-        record {
-          whole = s.whole;
-          least_places = omega (arith, length-map s.places seat_of, s.sixteen);
-          most_places = omega (arith, length-map s.places seat_of, s.sixteen);
-          least_most = omega arith;
-          greatest_most = omega arith;
-          within = s.within;
-          own = seats_lawful s.places s.few;
-        } };
+    ghost lawful = { store_lawful };
 
     fn begin(&mut self, place: usize) -> Result<(), StoreFault> {
-        self.vacant(place)?;
-        self.open(place);
-        Ok(())
+        let here = Place::on(&self.board);
+        self.places.open(place, here)
     }
 
     fn read(&self, place: usize, object: usize) -> Result<u32, StoreFault> {
@@ -34,13 +22,7 @@ impl Store for CopyStore {
     }
 
     fn write(&mut self, place: usize, object: usize, value: u32) -> Result<(), StoreFault> {
-        if place >= PLACES {
-            return Err(StoreFault::NoPlace);
-        }
-        match &mut self.places[place] {
-            Some(open) => open.write(object, value),
-            None => Err(StoreFault::PlaceClosed),
-        }
+        self.places.update(place, |open| open.write(object, value))
     }
 
     fn own_count(&self, place: usize) -> Result<u32, StoreFault> {
@@ -54,31 +36,25 @@ impl Store for CopyStore {
     fn commit(&mut self, place: usize) -> Result<(), StoreFault> {
         let open = self.place_at(place)?;
         if open.own_count() == 0 {
-            self.free(place);
-            return Ok(());
+            return self.abort(place);
         }
         if open.clashes() {
-            self.free(place);
+            self.abort(place)?;
             return Err(StoreFault::Overtaken);
         }
         if self.is_full() {
             return Err(StoreFault::Full);
         }
-        self.land(place);
-        Ok(())
+        self.land(place)?;
+        self.abort(place)
     }
 
     fn abort(&mut self, place: usize) -> Result<(), StoreFault> {
-        let _ = self.place_at(place)?;
-        self.free(place);
-        Ok(())
+        self.places.close(place)
     }
 
     fn value(&self, object: usize) -> Result<u32, StoreFault> {
-        if object >= OBJECTS {
-            return Err(StoreFault::NoObject);
-        }
-        Ok(self.board[object])
+        self.board.get(object).copied().ok_or(StoreFault::NoObject)
     }
 
     fn commits(&self) -> u32 {
@@ -86,9 +62,6 @@ impl Store for CopyStore {
     }
 
     fn is_open(&self, place: usize) -> Result<bool, StoreFault> {
-        if place >= PLACES {
-            return Err(StoreFault::NoPlace);
-        }
-        Ok(self.places[place].is_some())
+        self.places.is_open(place)
     }
 }

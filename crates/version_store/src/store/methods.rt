@@ -1,18 +1,15 @@
 // What a version store does: each call of a store, and the few steps that they share.
 ghost use Rattle.std.specs.Prelude.{◌≡◌, ◌<◌, ◌≤◌, replicate, IfOk, if◌then◌else◌, Some, None, Ok, Err, OnOk, nat_eq};
-ghost use Rattle.stores.specs.Model.{place_at, begin_answer, with_place, spread};
+ghost use Rattle.stores.specs.Model.{place_at, spread};
 ghost use Rattle.versions.specs.Writes.{own_of};
 ghost use Rattle.versions.specs.Meaning.{history_of, land_answer};
-ghost use Rattle.version_store.specs.Begun.{begun_of};
-ghost use Rattle.version_store.specs.Meaning.{meaning_of, place_of, seat_of};
-ghost use Rattle.std.proofs.Common.{arith};
-ghost use Rattle.versions.proofs.Histories.{length-board_at};
-ghost use Rattle.version_store.specs.VersionStoreStoreLemmas.{sixteen, each_lawful};
+ghost use Rattle.version_store.specs.Meaning.{meaning_of, place_of};
+ghost use Rattle.version_store.specs.Lawful.{store_lawful};
 
 use crate::place::Place;
-use crate::store::{PLACES, VersionStore};
+use crate::store::VersionStore;
 use std::alloc::{AllocError, Global};
-use stores::{Store, StoreFault};
+use stores::{Seats, Store, StoreFault};
 use tickets::Pair;
 use versions::{History, OwnWrites};
 
@@ -24,45 +21,16 @@ impl VersionStore {
         let history = History::new(heap, values)?;
         Ok(VersionStore {
             history,
-            places: [None; 16],
+            places: Seats::closed(),
         })
     }
 
     // The place, where it is open.
     fn at(&self, place: usize) -> Result<&Place, StoreFault>
-        ensures within { OnOk result (place < 16) }
         ensures begun { IfOk result (λ pl. pl.now.begun ≤ (history_of self.now.history).commits) }
         ensures found { elim result [ Ok pl ↦ place_at (meaning_of self.now) place ≡ Ok (place_of (history_of self.now.history) pl.now) | Err e ↦ place_at (meaning_of self.now) place ≡ Err e ] }
     {
-        if place >= PLACES {
-            return Err(StoreFault::NoPlace);
-        }
-        match &self.places[place] {
-            Some(open) => Ok(open),
-            None => Err(StoreFault::PlaceClosed),
-        }
-    }
-
-    // That the place is not open.
-    fn vacant(&self, place: usize) -> Result<(), StoreFault>
-        ensures within { OnOk result (place < 16) }
-        ensures answer { result ≡ begin_answer (meaning_of self.now) place }
-    {
-        if place >= PLACES {
-            return Err(StoreFault::NoPlace);
-        }
-        match &self.places[place] {
-            Some(_) => Err(StoreFault::PlaceOpen),
-            None => Ok(()),
-        }
-    }
-
-    // Fills or empties a seat.
-    fn put(&mut self, place: usize, seat: Option<Place>)
-        requires { (place < 16) × (begun_of seat ≤ (history_of self.old.history).commits) }
-        ensures { meaning_of self.new ≡ with_place (meaning_of self.old) place (seat_of (history_of self.old.history) seat) }
-    {
-        self.places[place] = seat;
+        self.places.get(place)
     }
 
     // Makes these writes the next commit, where there is room for one more.
@@ -77,46 +45,25 @@ impl VersionStore {
 impl Store for VersionStore {
     ghost meaning = { meaning_of };
 
-    ghost lawful = { λ s.
-        record {
-          whole = length-board_at (history_of s.history).versions s.history.commits;
-          least_places = omega (arith, sixteen s);
-          most_places = omega (arith, sixteen s);
-          least_most = omega arith;
-          greatest_most = omega arith;
-          within = s.history.few;
-          own = each_lawful s;
-        } };
+    ghost lawful = { store_lawful };
 
     fn begin(&mut self, place: usize) -> Result<(), StoreFault> {
-        self.vacant(place)?;
         let begun = self.history.commits();
-        self.put(
-            place,
-            Some(Place {
-                begun,
-                own: OwnWrites::none(),
-            }),
-        );
-        Ok(())
+        let own = OwnWrites::none();
+        self.places.open(place, Place { begun, own })
     }
 
     fn read(&self, place: usize, object: usize) -> Result<u32, StoreFault> {
         let open = self.at(place)?;
-        match open.own.get(object) {
-            Some(value) => Ok(value),
-            None => self
-                .history
-                .value_at(object, open.begun)
-                .ok_or(StoreFault::NoObject),
-        }
+        open.own
+            .get(object)
+            .or_else(|| self.history.value_at(object, open.begun))
+            .ok_or(StoreFault::NoObject)
     }
 
     fn write(&mut self, place: usize, object: usize, value: u32) -> Result<(), StoreFault> {
-        let mut open = *self.at(place)?;
-        open.own.set(object, value)?;
-        self.put(place, Some(open));
-        Ok(())
+        self.places
+            .update(place, |open| open.own.set(object, value))
     }
 
     fn own_count(&self, place: usize) -> Result<u32, StoreFault> {
@@ -130,22 +77,18 @@ impl Store for VersionStore {
     fn commit(&mut self, place: usize) -> Result<(), StoreFault> {
         let open = *self.at(place)?;
         if open.own.count() == 0 {
-            self.put(place, None);
-            return Ok(());
+            return self.abort(place);
         }
         if self.history.overtakes(&open.own, open.begun) {
-            self.put(place, None);
+            self.abort(place)?;
             return Err(StoreFault::Overtaken);
         }
         self.land(&open.own)?;
-        self.put(place, None);
-        Ok(())
+        self.abort(place)
     }
 
     fn abort(&mut self, place: usize) -> Result<(), StoreFault> {
-        self.at(place)?;
-        self.put(place, None);
-        Ok(())
+        self.places.close(place)
     }
 
     fn value(&self, object: usize) -> Result<u32, StoreFault> {
@@ -157,9 +100,6 @@ impl Store for VersionStore {
     }
 
     fn is_open(&self, place: usize) -> Result<bool, StoreFault> {
-        if place >= PLACES {
-            return Err(StoreFault::NoPlace);
-        }
-        Ok(self.places[place].is_some())
+        self.places.is_open(place)
     }
 }

@@ -5,8 +5,7 @@ use Rattle.version_store.specs.Meaning.{store_over}
 use Rattle.version_store.proofs.Landing.{store_lands}
 use Rattle.version_store.proofs.store.VersionStore.land.Goals as goal
 
-pub returns : goal.returns
-returns c =
+pub returns-clause-after : goal.returns-clause-after
+returns-clause-after c =
     let s = c.args.self.now in
-    let e = c.land.ensures in
-    record { answer = e.answer; after = ap (λ h. store_over h s.places) e.after ∙ store_lands (history_of s.history) (own_of c.args.own.now) s.places s.history.past s.begun }
+    ap (λ h. store_over h s.places.seats) c.land.ensures.after ∙ store_lands (history_of s.history) (own_of c.args.own.now) s.places.seats s.history.past s.begun
