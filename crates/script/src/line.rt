@@ -15,13 +15,12 @@ fn spoken(answer: Answer) -> Result<Printed, BoardFault>
     ensures answer { result ≡ spoken answer }
 {
     match answer {
-        Answer::Done => Ok(Printed::Ok),
         Answer::Number(n) => Ok(Printed::OkNumber(n)),
         Answer::ReadOnly => Ok(Printed::OkRead),
         Answer::Abort(n) => Ok(Printed::Abort(u32::from(n))),
-        Answer::State(_, _) => Ok(Printed::Ok),
-        Answer::WriteSet(_) => Ok(Printed::Ok),
-        Answer::Applied(_) => Ok(Printed::Ok),
+        Answer::Done | Answer::State(_, _) | Answer::WriteSet(_) | Answer::Applied(_) => {
+            Ok(Printed::Ok)
+        }
         Answer::Refused(fault) => Err(fault),
     }
 }

@@ -1,4 +1,4 @@
-// Refusals by their numbers, as they are printed.
+// Refusals by their numbers, as they are printed: the answers to a script have no words for them.
 ghost use Rattle.std.specs.Prelude.{◌≡◌};
 ghost use Rattle.banks.specs.Faults.{listed as bank-listed};
 ghost use Rattle.machine.specs.Reasons.{with_number, listed as reason-listed};
