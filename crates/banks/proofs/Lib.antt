@@ -2,4 +2,4 @@ pub mod Others
 pub mod Calls
 pub mod Writes
 mod One
-mod Settles
+pub mod Settles

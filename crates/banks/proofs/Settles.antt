@@ -1,5 +1,5 @@
 -- Work that is settled: committed, or aborted where the store is full. Assumes nothing.
-use Rattle.std.proofs.Common.{◌≡◌, ℕ, ◌<◌, List, [], length, Ok, Err, Result, sym, refl, ap, ◌∙◌, arith}
+use Rattle.std.proofs.Common.{◌≡◌, ℕ, ◌<◌, List, length, Ok, Err, Result, sym, refl, ap, ◌∙◌, arith}
 use Rattle.stores.specs.declared.fault.StoreFault.{StoreFault}
 use Rattle.stores.specs.declared.fault.StoreFault.TheVariants.{NoObject, NoPlace, NinthObject, Overtaken, Full, PlaceOpen, PlaceClosed}
 use Rattle.stores.specs.Model.{StoreModel, commit_answer, commit_after, abort_after}
@@ -10,7 +10,7 @@ use Rattle.banks.specs.declared.work.Unfinished.{Unfinished}
 use Rattle.banks.specs.declared.work.Unfinished.TheVariants.{Ended, Back}
 use Rattle.banks.specs.Works.{ended, refused, refused_by}
 use Rattle.banks.specs.Steps.{freed, ended_after, settled_after}
-use Rattle.banks.specs.Model.{store_at, asked, changed}
+use Rattle.banks.specs.Model.{no_store, store_at, asked, changed}
 use Rattle.banks.proofs.Calls.{asked_ok, asked_err, changed_agree, changed_changed}
 
 -- ---- what a refused commit hands back
@@ -20,26 +20,34 @@ abbrev left_by : StoreModel → Unfinished → StoreModel
 left_by m (Ended e) = m
 left_by m (Back w e) = abort_after m w.place
 
-abbrev work_of : Work → Unfinished → Work
+abbrev pub work_of : Work → Unfinished → Work
 work_of w (Ended e) = w
 work_of w (Back w' e) = w'
 
-by_fault : (w : Work) (k : ℕ) (d : StoreFault) (m : StoreModel) → (freed m w.place d ≡ left_by m (refused_by w k d)) × (work_of w (refused_by w k d) ≡ w)
-by_fault w k NoObject m = (refl, refl)
-by_fault w k NoPlace m = (refl, refl)
-by_fault w k NinthObject m = (refl, refl)
-by_fault w k Overtaken m = (refl, refl)
-by_fault w k Full m = (refl, refl)
-by_fault w k PlaceOpen m = (refl, refl)
-by_fault w k PlaceClosed m = (refl, refl)
+abbrev pub fault_of : Unfinished → BankFault
+fault_of (Ended e) = e
+fault_of (Back w e) = e
+
+by_fault : (w : Work) (k : ℕ) (d : StoreFault) (m : StoreModel) → (freed m w.place d ≡ left_by m (refused_by w k d)) × (work_of w (refused_by w k d) ≡ w) × (fault_of (refused_by w k d) ≡ At k d)
+by_fault w k NoObject m = (refl, refl, refl)
+by_fault w k NoPlace m = (refl, refl, refl)
+by_fault w k NinthObject m = (refl, refl, refl)
+by_fault w k Overtaken m = (refl, refl, refl)
+by_fault w k Full m = (refl, refl, refl)
+by_fault w k PlaceOpen m = (refl, refl, refl)
+by_fault w k PlaceClosed m = (refl, refl, refl)
 
 refused_is : (w : Work) (u : Unfinished) (r : Result (Unit {0}) BankFault) → Err u ≡ ended w r → (f : BankFault) × (Err f ≡ r) × (u ≡ refused w f)
 refused_is w u (Ok x) h = let z : ◌≡◌ {A = ℕ} 0 1 = cc in absurd (omega arith)
 refused_is w u (Err f) h = (f, refl, cc)
 
-same_work : (w : Work) (f : BankFault) → work_of w (refused w f) ≡ w
+pub same_work : (w : Work) (f : BankFault) → work_of w (refused w f) ≡ w
 same_work w (NoReplica k) = refl
-same_work w (At k d) = (by_fault w k d (record { board = []; commits = 0; most = 0; places = [] })).1
+same_work w (At k d) = (by_fault w k d no_store).1
+
+pub same_fault : (w : Work) (f : BankFault) → fault_of (refused w f) ≡ f
+same_fault w (NoReplica k) = refl
+same_fault w (At k d) = (by_fault w k d no_store).2
 
 accepted : (w : Work) (r : Result (Unit {0}) BankFault) → Ok tt ≡ ended w r → Ok tt ≡ r
 accepted w (Ok u) h = refl

@@ -5,6 +5,7 @@ ghost use Rattle.banks.specs.Model.{store_at};
 ghost use Rattle.errands.specs.Copies.{any_open, used, above_top, unlike, first_above_top, first_unlike};
 
 use banks::Bank;
+use std::array;
 use tickets::{OBJECTS, top};
 
 // A store has at most so many places.
@@ -21,12 +22,7 @@ fn is_open<B: Bank>(bank: &B, replica: u8, place: usize) -> bool
 fn has_open_place<B: Bank>(bank: &B, replica: u8) -> bool
     ensures answer { result ≡ any_open (store_at (B.Bank.stores bank.now) replica).places }
 {
-    for place in 0..MOST_PLACES {
-        if is_open(bank, replica, place) {
-            return true;
-        }
-    }
-    false
+    (0..MOST_PLACES).any(|place| is_open(bank, replica, place))
 }
 
 // How many commits wrote at a replica.
@@ -45,7 +41,6 @@ pub fn is_used<B: Bank>(bank: &B, replica: u8) -> bool
 
 // The value of an object at a replica.
 fn value_at<B: Bank>(bank: &B, replica: u8, object: usize) -> u32
-    requires { object < 128 }
     ensures answer { result ≡ value (store_at (B.Bank.stores bank.now) replica).board object }
 {
     bank.value(replica, object).unwrap_or(0)
@@ -55,33 +50,19 @@ fn value_at<B: Bank>(bank: &B, replica: u8, object: usize) -> u32
 pub fn lowest_above_top<B: Bank>(bank: &B, replica: u8) -> Option<usize>
     ensures answer { result ≡ first_above_top (store_at (B.Bank.stores bank.now) replica).board }
 {
-    for object in 0..OBJECTS {
-        if top(object) < value_at(bank, replica, object) {
-            return Some(object);
-        }
-    }
-    None
+    (0..OBJECTS).find(|&object| top(object) < value_at(bank, replica, object))
 }
 
 /// The lowest object whose value at a replica is not that of a board.
 pub fn lowest_unlike<B: Bank>(bank: &B, replica: u8, start: &[u32; 128]) -> Option<usize>
     ensures answer { result ≡ first_unlike start.now (store_at (B.Bank.stores bank.now) replica).board }
 {
-    for object in 0..OBJECTS {
-        if start[object] != value_at(bank, replica, object) {
-            return Some(object);
-        }
-    }
-    None
+    start.iter().enumerate().position(|(object, value)| *value != value_at(bank, replica, object))
 }
 
 /// The board of replica 0.
 pub fn starting_board<B: Bank>(bank: &B) -> [u32; 128]
     ensures answer { result ≡ (store_at (B.Bank.stores bank.now) 0).board }
 {
-    let mut start = [0; 128];
-    for object in 0..OBJECTS {
-        start[object] = value_at(bank, 0, object);
-    }
-    start
+    array::from_fn(|object| value_at(bank, 0, object))
 }

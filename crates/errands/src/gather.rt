@@ -11,16 +11,14 @@ use tickets::{Pair, WriteSet};
 fn added(set: Option<WriteSet>, pair: Pair) -> Option<WriteSet>
     ensures answer { set_pairs result ≡ built (pairs_in (set_pairs set) ++ pair_of pair ∷ []) }
 {
-    match set {
-        None => WriteSet::one(pair),
-        Some(set) => set.with(pair),
-    }
+    set.map_or_else(|| WriteSet::one(pair), |set| set.with(pair))
 }
 
 /// The write set of a place; none where it has no own writes.
 pub fn gather<B: Bank>(bank: &B, replica: u8, place: usize) -> Result<Option<WriteSet>, BankFault>
     ensures answer { gathered result ≡ asked (B.Bank.stores bank.now) replica (λ m. own_answer m place) }
 {
+    // A bank tells one own write to a call, from an object on, and hands out no iterator of them: so the loop keeps that object.
     let mut set = None;
     let mut from = 0;
     while let Some(pair) = bank.own_from(replica, place, from)? {

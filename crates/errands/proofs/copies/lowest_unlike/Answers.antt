@@ -1,22 +1,17 @@
--- Going up to the first object that is unlike.
-use Rattle.std.proofs.Common.{◌≡◌, true, false, not, sym, ap, ◌∙◌}
-use Rattle.std.proofs.lemmas.Bool.{eq-eqb, ne_eqb}
+-- The start has 128 values, one for each object.
+use Rattle.std.proofs.Common.{◌==◌, rules, ◌∙◌, not}
+use Rattle.std.proofs.lemmas.Iterator.{YieldsList-from_slice}
+use Rattle.std.proofs.lemmas.Iterator.Consumers.{YieldsList-from_enumerate}
+use Rattle.std.proofs.lemmas.Iterator.Search.{position_from_yields_List}
+use Rattle.tickets.specs.Boards.{value}
 use Rattle.banks.specs.Model.{store_at}
-use Rattle.errands.specs.Copies.{unlike}
-use Rattle.errands.proofs.Looked.{first_object_step, first_object_none}
+use Rattle.errands.proofs.Looked.{first_unlike_at}
 use Rattle.errands.proofs.copies.lowest_unlike.Goals as goal
-
-pub returns-then-start-object : goal.returns-then-start-object
-returns-then-start-object g c =
-    let f = unlike c.args.start.now (store_at (g.B.Bank.stores c.args.bank.now) c.args.replica).board in
-    let differs : f c.loop-object.object ≡ true = ap not (ne_eqb _ _ (λ e. c.if-start-object.true (e ∙ sym c.value_at.ensures.answer))) in
-    record { answer = sym (sym c.loop-object.invariant ∙ first_object_step f c.loop-object.object true c.loop-object-test.true differs) }
-
-pub loop-object-preserved : goal.loop-object-preserved
-loop-object-preserved g c =
-    let f = unlike c.args.start.now (store_at (g.B.Bank.stores c.args.bank.now) c.args.replica).board in
-    let same : f c.loop-object.object ≡ false = ap not (eq-eqb _ _ (c.if-start-object.false ∙ c.value_at.ensures.answer)) in
-    sym (first_object_step f c.loop-object.object false c.loop-object-test.true same) ∙ c.loop-object.invariant
+use borrow.Author.Tests.{tests}
 
 pub returns : goal.returns
-returns g c = record { answer = sym (sym c.loop-object.invariant ∙ first_object_none _ _ c.loop-object-test.false) }
+returns g c =
+    let start = c.args.start.now in
+    let board = (store_at (g.B.Bank.stores c.args.bank.now) c.args.replica).board in
+    let at = position_from_yields_List (λ p. not (p.1 == value board p.0)) _ _ c.position.result c.position.ensures.ran (YieldsList-from_enumerate (YieldsList-from_slice start cc) cc) (λ x b q k. search (rules, tests)) in
+    record { answer = at ∙ first_unlike_at start board (search rules) }

@@ -10,4 +10,5 @@ use Rattle.errands.proofs.copies.value_at.Goals as goal
 pub returns : goal.returns
 returns g c =
     let j = c.args.object in
-    record { answer = c.unwrap_or.ensures ∙ ap (λ r. result_unwrap_or r 0) c.value.ensures.answer ∙ asked_or (g.B.Bank.stores c.args.bank.now) c.args.replica (λ m. value_answer m j) 0 (λ (m : StoreModel). value m.board j) (value_or j c.requires) refl }
+    let ms = g.B.Bank.stores c.args.bank.now in
+    record { answer = c.unwrap_or.ensures ∙ ap (λ r. result_unwrap_or r 0) c.value.ensures.answer ∙ asked_or ms c.args.replica (λ m. value_answer m j) 0 (λ (m : StoreModel). value m.board j) (λ h. value_or j _ (g.met.B.Bank.lawful c.args.bank.now c.args.replica h)) refl }

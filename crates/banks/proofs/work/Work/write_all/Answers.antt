@@ -12,7 +12,7 @@ pub returns-in_err-write : goal.returns-in_err-write
 returns-in_err-write g c =
     let v = c.args.self.now in
     let all = c.pairs-pair-items.ensures.answer in
-    let s = write_stops _ _ v.replica v.place _ c.loop-pair.pair-index _ c.loop-pair-test.true c.write.ensures.after _ c.in_err-write.ensures.answer in
+    let s = write_stops _ v.replica v.place _ c.loop-pair.pair-index _ _ c.loop-pair-test.true c.write.ensures.after _ c.in_err-write.ensures.answer in
     let r = err_from_is_err_and c.from_residual.result c.from_residual.ensures.1 in
     record {
       answer = r.1 ∙ ap (λ e. Err e) r.2 ∙ s.0 ∙ c.loop-pair.invariant.answer ∙ ap (λ ps. asked (g.B.Bank.stores c.args.bank.now) v.replica (λ m. writes_answer m v.place ps)) all;
@@ -22,7 +22,7 @@ returns-in_err-write g c =
 pub loop-pair-preserved : goal.loop-pair-preserved
 loop-pair-preserved g c =
     let v = c.args.self.now in
-    let s = write_goes_on _ _ v.replica v.place _ c.loop-pair.pair-index _ c.loop-pair-test.true c.write.ensures.after c.in_ok-write.ensures.answer in
+    let s = write_goes_on _ v.replica v.place _ c.loop-pair.pair-index _ _ c.loop-pair-test.true c.write.ensures.after c.in_ok-write.ensures.answer in
     record { answer = s.0 ∙ c.loop-pair.invariant.answer; after = s.1 ∙ c.loop-pair.invariant.after; there = λ _. s.2 }
 
 pub returns : goal.returns
