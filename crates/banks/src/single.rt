@@ -17,6 +17,8 @@ fn only(replica: u8) -> Result<(), BankFault>
     Ok(())
 }
 
+// The check of the replica and the store's call stand apart: one helper for both would take the call as a closure, and there
+// would be two of them, one for a store that is read and one for a store that is changed.
 impl<S: Store> Bank for S {
     ghost stores = { λ s. S.Store.meaning s ∷ [] };
 

@@ -1,8 +1,8 @@
 // What opening looks at: a replica's places, its commits and its values.
-ghost use Rattle.std.specs.Prelude.{◌≡◌, ℕ, ◌+◌, ◌<◌, ◌≤◌, is_some, None, slice_index_or};
+ghost use Rattle.std.specs.Prelude.{◌≡◌, is_some, None, slice_index_or};
 ghost use Rattle.tickets.specs.Boards.{value};
 ghost use Rattle.banks.specs.Model.{store_at};
-ghost use Rattle.errands.specs.Copies.{any_open, used, above_top, unlike, first_above_top, first_unlike};
+ghost use Rattle.errands.specs.Copies.{any_open, used, first_above_top, first_unlike};
 
 use banks::Bank;
 use std::array;

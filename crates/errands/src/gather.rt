@@ -1,5 +1,5 @@
 // The own writes of a place, told one by one, as a write set.
-ghost use Rattle.std.specs.Prelude.{◌≡◌, ℕ, ◌+◌, ◌<◌, ◌≤◌, [], ◌∷◌, ◌++◌};
+ghost use Rattle.std.specs.Prelude.{◌≡◌, [], ◌∷◌, ◌++◌};
 ghost use Rattle.tickets.specs.Meaning.{pair_of, built, set_pairs};
 ghost use Rattle.banks.specs.Model.{asked};
 ghost use Rattle.errands.specs.Own.{pairs_in, own_answer, gathered};
