@@ -1,5 +1,5 @@
 -- A run written as a whole: what is answered, what the buffer holds, and what reads back.
-use Rattle.std.proofs.Common.{◌≡◌, ℕ, ◌+◌, ◌*◌, ◌<◌, ◌≤◌, List, ◌++◌, length, take, drop, Some, None, Ok, Option, sym, refl, ap, ◌∙◌, arith}
+use Rattle.std.proofs.Common.{◌≡◌, ℕ, ◌+◌, ◌-◌, ◌*◌, ◌<◌, ◌≤◌, List, ◌++◌, length, take, drop, Some, None, Ok, Option, sym, refl, ap, ◌∙◌, arith}
 use Rattle.std.proofs.lemmas.Bool.{le-leb, cond-true}
 use Rattle.std.proofs.lemmas.List.{take_at}
 use Rattle.record_format.specs.Items.{Item, Run, unfit}
@@ -28,11 +28,11 @@ fitting its room run h =
     let longest = size_laws.longest its run in
     record { few = omega arith; contents_fit = omega arith; all_fit = omega arith; offsets_fit = omega arith }
 
-pub parts_written : (its : List Item) {b b1 b2 b3 : List ℕ} {head middle end : ℕ} → Run its → length (encoded its) ≤ length b → Wrote b 0 (two (length its)) b1 head → Wrote b1 head (contents (first_body (length its)) its) b2 middle → Wrote b2 middle (bodies its) b3 end → Wrote b 0 (encoded its) b3 end
-parts_written its {b} run h u v w =
-    let f = fitting its (length b) run h in
+pub parts_written : (its : List Item) {b b1 b2 b3 : List ℕ} {at head middle end : ℕ} → Run its → at + length (encoded its) ≤ length b → Wrote b at (two (length its)) b1 head → Wrote b1 head (contents (first_body (length its)) its) b2 middle → Wrote b2 middle (bodies its) b3 end → Wrote b at (encoded its) b3 end
+parts_written its {b} {b1} {b2} {b3} {at} run h u v w =
+    let f = fitting its (length b - at) run (omega (arith, h)) in
     let c = length-contents (first_body (length its)) its in
-    then (omega (arith, f.contents_fit)) (then (omega (arith, f.contents_fit)) u v) w
+    then (omega (arith, f.contents_fit, h)) (then (omega (arith, f.contents_fit, h)) u v) w
 
 -- ---- the whole
 

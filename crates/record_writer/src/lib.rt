@@ -1,8 +1,8 @@
 // Writing the run record into a buffer that the caller lends.
 #![tactic(auto)]
 
-mod bytes;
 mod parts;
+mod pen;
 mod runs;
 pub mod writes;
 

@@ -5,7 +5,7 @@ ghost use Rattle.record_format.specs.Meaning.{items_of};
 ghost use Rattle.record_format.specs.Faults.{listed};
 ghost use Rattle.record_format.specs.Calls.{write_answer, write_bytes};
 
-use crate::parts::put_record;
+use crate::pen::Pen;
 use crate::runs::size;
 use record_format::{NumberedSet, NumberedSets, RecordFault};
 
@@ -20,7 +20,9 @@ pub fn write_run<R: NumberedSets>(run: &R, buffer: &mut [u8]) -> Result<usize, R
     if buffer.len() < needed {
         return Err(RecordFault::BufferShort { needed });
     }
-    Ok(put_record(buffer, run))
+    let mut pen = Pen { buffer, at: 0 };
+    pen.put_record(run);
+    Ok(pen.at)
 }
 
 /// Writes write sets that are lent.
