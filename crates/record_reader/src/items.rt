@@ -25,6 +25,7 @@ fn write_set(pairs: &[[u8; PAIR_BYTES]]) -> Option<WriteSet>
 }
 
 /// Item `n` with its body at a place, where it stands there.
+// It takes the whole record and the place, not the part that begins there: the entry lies before it, and its offset is held against the place.
 pub(crate) fn item_at(bytes: &[u8], n: usize, at: usize) -> Option<NumberedSet>
     requires le_n { 1 ≤ n }
     requires n_in_bounds { first_body n ≤ length bytes.now }
