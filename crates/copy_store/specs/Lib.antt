@@ -1,3 +1,4 @@
 pub mod Places
 pub mod Copied
+pub mod Kept
 pub mod Lawful
