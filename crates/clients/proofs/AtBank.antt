@@ -1,59 +1,19 @@
 -- The steps of a client at one store of a bank: each comes to what it comes to at that store. Assumes nothing.
-use Rattle.std.proofs.Common.{◌≡◌, ℕ, ◌+◌, ◌<◌, List, length, drop, Some, None, Ok, Err, Result, sym, refl, ap, ◌∙◌, ⊎_elim, arith}
+use Rattle.std.proofs.Common.{◌≡◌, ℕ, ◌<◌, List, length, Ok, Err, Result, sym, refl, ap, ◌∙◌, ⊎_elim, arith}
 use Rattle.std.proofs.lemmas.Bool.{cases_lt}
 use Rattle.tickets.specs.WriteSets.{Pairs}
 use Rattle.stores.specs.declared.fault.StoreFault.{StoreFault}
-use Rattle.stores.specs.Model.{StoreModel, begin_answer, begin_after, write_answer, write_after, bind, leaves}
+use Rattle.stores.specs.Model.{StoreModel, begin_answer, begin_after, bind, leaves}
 use Rattle.banks.specs.declared.fault.BankFault.{BankFault}
 use Rattle.banks.specs.declared.fault.BankFault.TheVariants.{NoReplica, At}
 use Rattle.banks.specs.declared.work.Work.{Work}
 use Rattle.banks.specs.Works.{begun}
 use Rattle.banks.specs.Model.{store_at, lifted, asked, changed}
-use Rattle.banks.proofs.Calls.{asked_at, asked_past, asked_ok, asked_err, changed_same, asked_agree, changed_agree, asked_changed, changed_changed}
-use Rattle.banks.proofs.Others.{changed_others}
+use Rattle.banks.proofs.Calls.{asked_at, asked_past, asked_ok, asked_err, changed_agree, asked_changed, changed_changed}
 use Rattle.clients.specs.Committed.{opened_after}
-use Rattle.clients.specs.Steps.{writes_answer, writes_after}
-use Rattle.clients.proofs.Pairs.{Fit, pair_at, no_pair}
+use Rattle.banks.specs.Steps.{writes_answer, writes_after}
+use Rattle.clients.proofs.Pairs.{Fit}
 use Rattle.clients.proofs.Writes as at
-
--- ---- the i-th pair is written, and what is left gives what was left
-
-module _ (ms ms' : List StoreModel) (k p : ℕ) (ps : Pairs) (i : ℕ) (q : ℕ × ℕ) (next : Some q ≡ pair_at ps i) (wrote : ms' ≡ changed ms k (λ m. write_after m p q.0 q.1)) where
-  pub write_goes_on : Ok tt ≡ asked ms k (λ m. write_answer m p q.0 q.1)
-      → (asked ms' k (λ m. writes_answer m p (drop (i + 1) ps)) ≡ asked ms k (λ m. writes_answer m p (drop i ps)))
-      × (changed ms' k (λ m. writes_after m p (drop (i + 1) ps)) ≡ changed ms k (λ m. writes_after m p (drop i ps)))
-      × (k < length ms')
-  write_goes_on e =
-      let a = asked_ok ms k (λ m. write_answer m p q.0 q.1) tt e in
-      let m = store_at ms k in
-      let s = at.write_goes_on m (write_after m p q.0 q.1) p ps i q next refl a.1 in (
-        ap (λ l. asked l k (λ m. writes_answer m p (drop (i + 1) ps))) wrote
-            ∙ asked_changed ms k (λ m. write_after m p q.0 q.1) (λ m. writes_answer m p (drop (i + 1) ps))
-            ∙ asked_agree ms k (λ m. writes_answer (write_after m p q.0 q.1) p (drop (i + 1) ps)) (λ m. writes_answer m p (drop i ps)) (λ _. s.0),
-        ap (λ l. changed l k (λ m. writes_after m p (drop (i + 1) ps))) wrote
-            ∙ changed_changed ms k (λ m. write_after m p q.0 q.1) (λ m. writes_after m p (drop (i + 1) ps))
-            ∙ changed_agree ms k (λ m. writes_after (write_after m p q.0 q.1) p (drop (i + 1) ps)) (λ m. writes_after m p (drop i ps)) (λ _. s.1),
-        (let n = ap length wrote ∙ (changed_others ms k (λ m. write_after m p q.0 q.1)).as_many in omega (arith, a.0)),
-      )
-
-  pub write_stops : (e : BankFault) → Err e ≡ asked ms k (λ m. write_answer m p q.0 q.1)
-      → (Err e ≡ asked ms k (λ m. writes_answer m p (drop i ps))) × (ms' ≡ changed ms k (λ m. writes_after m p (drop i ps)))
-  write_stops e h =
-      let m = store_at ms k in
-      let d = asked_err ms k (λ m. write_answer m p q.0 q.1) e h in
-      let s = λ (l : k < length ms). at.write_stops m (write_after m p q.0 q.1) p ps i q next refl (d l).0 (d l).1 in (
-        h ∙ asked_agree ms k (λ m. write_answer m p q.0 q.1) (λ m. writes_answer m p (drop i ps)) (λ l. sym (d l).1 ∙ (s l).0),
-        wrote ∙ changed_agree ms k (λ m. write_after m p q.0 q.1) (λ m. writes_after m p (drop i ps)) (λ l. (s l).1),
-      )
-
-pub writes_done : (ms : List StoreModel) (k p : ℕ) (ps : Pairs) (i : ℕ) → k < length ms → None ≡ pair_at ps i
-    → (Ok tt ≡ asked ms k (λ m. writes_answer m p (drop i ps))) × (ms ≡ changed ms k (λ m. writes_after m p (drop i ps)))
-writes_done ms k p ps i l none =
-    let d = no_pair ps i none in
-    let m = store_at ms k in (
-      ap (λ qs. lifted k (writes_answer m p qs)) (sym d) ∙ sym (asked_at ms k (λ m. writes_answer m p (drop i ps)) l),
-      sym (changed_same ms k (λ m. writes_after m p (drop i ps)) (λ _. ap (writes_after m p) d)),
-    )
 
 -- ---- work that was begun
 

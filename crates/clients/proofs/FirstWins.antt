@@ -6,22 +6,37 @@ use Rattle.tickets.specs.Meaning.{pairs}
 use Rattle.tickets.proofs.Playing.{shares_either_way}
 use Rattle.stores.specs.declared.fault.StoreFault.{StoreFault}
 use Rattle.stores.specs.declared.fault.StoreFault.TheVariants.{Overtaken, PlaceOpen}
-use Rattle.stores.specs.declared.work.Work.{Work}
+use Rattle.banks.specs.declared.work.Work.{Work}
 use Rattle.stores.specs.Model.{StoreModel, with_place, begin_answer, abort_after, bind, leaves}
-use Rattle.stores.specs.Works.{begun}
 use Rattle.clients.specs.declared.race.Entry.{Entry}
 use Rattle.clients.specs.declared.race.Order.{Order}
 use Rattle.clients.specs.declared.race.Order.TheVariants.{LeftFirst, RightFirst}
 use Rattle.clients.specs.declared.race.Race.{Race}
 use Rattle.clients.specs.Committed.{Closed, room, written_place, committed, opened_after}
 use Rattle.clients.specs.Races.{first_of, second_of, settled_race, settled_both, both_opened, second_answer, raced, raced_after, winner, loser, race_answer, race_after, FirstCommitterWins}
-use Rattle.clients.proofs.Writes.{begun_is, begun_err, closed_begin}
+use Rattle.clients.proofs.Writes.{closed_begin}
+use Rattle.clients.proofs.AtStore.{begun_there, begun_is, begun_err}
 use Rattle.clients.proofs.Landing.{roomy, committed_lands}
 use Rattle.clients.proofs.Racing.{left_open, left_opened, left_freed, right_refused, right_opened, settles, both_raced}
 
 -- ---- the calls, one after the other
 
-module _ (m m₁ m₂ : StoreModel) (l r : Entry) (o : Order) (a : Work) (opened : Ok a ≡ begun l.place (begin_answer m l.place)) (wrote : m₁ ≡ opened_after m l.place (pairs l.set))
+module _ (m : StoreModel) (l r : Entry) (o : Order) (e : StoreFault) (refused : Err e ≡ begun_there l.place (begin_answer m l.place)) where
+  left_err : begin_answer m l.place ≡ Err e
+  left_err = begun_err l.place e (begin_answer m l.place) refused
+
+  not_both : both_opened m l.place r.place ≡ Err e
+  not_both = ap (λ k. bind k (λ _. cond (eqb l.place r.place) (Err PlaceOpen) (begin_answer m r.place))) left_err
+
+  pub left_refused_answered : Err e ≡ race_answer m l r o
+  left_refused_answered = sym (ap (λ k. bind k (λ _. Ok (raced m (winner l r o) (loser l r o)))) not_both)
+
+  pub left_refused_left : {m₁ : StoreModel} → m₁ ≡ opened_after m l.place (pairs l.set) → m₁ ≡ race_after m l r o
+  left_refused_left h =
+      h ∙ ap (λ k. leaves k (λ _. with_place m l.place (Some (written_place m.board (pairs l.set)))) m) left_err
+      ∙ sym (ap (λ k. leaves k (λ _. raced_after m (winner l r o) (loser l r o)) m) not_both)
+
+module _ (m m₁ m₂ : StoreModel) (l r : Entry) (o : Order) (a : Work) (opened : Ok a ≡ begun_there l.place (begin_answer m l.place)) (wrote : m₁ ≡ opened_after m l.place (pairs l.set))
     (wrote₂ : m₂ ≡ opened_after m₁ r.place (pairs r.set)) where
   left_at : a.place ≡ l.place
   left_at = (begun_is l.place a (begin_answer m l.place) opened).1
@@ -32,7 +47,7 @@ module _ (m m₁ m₂ : StoreModel) (l r : Entry) (o : Order) (a : Work) (opened
   is_open : m₁ ≡ left_open m l r left_free
   is_open = wrote ∙ left_opened m l r left_free
 
-  module _ (b : Work) (opened₂ : Ok b ≡ begun r.place (begin_answer m₁ r.place)) where
+  module _ (b : Work) (opened₂ : Ok b ≡ begun_there r.place (begin_answer m₁ r.place)) where
     right_at : b.place ≡ r.place
     right_at = (begun_is r.place b (begin_answer m₁ r.place) opened₂).1
 
@@ -51,7 +66,7 @@ module _ (m m₁ m₂ : StoreModel) (l r : Entry) (o : Order) (a : Work) (opened
         e ∙ (λ i. settled_both (n i) (first_of o (left_at i) (right_at i)) (second_of o (left_at i) (right_at i))) ∙ (settles m l r left_free right_free o).1
         ∙ (both_raced m l r left_free right_free o).1
 
-  module _ (e : StoreFault) (refused : Err e ≡ begun r.place (begin_answer m₁ r.place)) where
+  module _ (e : StoreFault) (refused : Err e ≡ begun_there r.place (begin_answer m₁ r.place)) where
     right_err : begin_answer (left_open m l r left_free) r.place ≡ Err e
     right_err = ap (λ n. begin_answer n r.place) (sym is_open) ∙ begun_err r.place e (begin_answer m₁ r.place) refused
 

@@ -1,17 +1,14 @@
 -- A write set committed in a place of its own. Assumes nothing.
-use Rattle.std.proofs.Common.{◌≡◌, ℕ, zero, suc, ◌<◌, Bool, true, false, cond, ◌&&◌, ◌||◌, eqb, map, length, get_or, Some, None, Ok, Err, Result, sym, refl, ap, ◌∙◌, ⊎_elim, arith}
+use Rattle.std.proofs.Common.{◌≡◌, ℕ, zero, suc, ◌<◌, Bool, true, false, cond, ◌&&◌, ◌||◌, eqb, map, length, get_or, Some, None, Ok, Err, sym, refl, ap, ◌∙◌, ⊎_elim, arith}
 use Rattle.std.proofs.lemmas.List.{length-map, get_or-map, get_or_past}
 use Rattle.std.proofs.lemmas.Bool.{ne_eqb, cases_lt}
 use Rattle.tickets.specs.WriteSets.{Pairs, stands}
-use Rattle.stores.specs.declared.fault.StoreFault.{StoreFault}
 use Rattle.stores.specs.declared.fault.StoreFault.TheVariants.{Overtaken}
-use Rattle.stores.specs.declared.work.Work.{Work}
 use Rattle.stores.specs.Model.{StoreModel, nothing, clashes, any_below, with_place, begin_answer, commit_answer, overtaken_by, bind, leaves}
-use Rattle.stores.specs.Works.{begun}
 use Rattle.clients.specs.Committed.{Closed, room, written_place, opened_after, committed, write_set_answer, write_set_after, Landed}
-use Rattle.clients.specs.Steps.{settled_after}
+use Rattle.banks.specs.Steps.{settled_after}
 use Rattle.clients.proofs.Pairs.{Fit}
-use Rattle.clients.proofs.Writes.{begun_is, begin_closed, closed_begin}
+use Rattle.clients.proofs.Writes.{begin_closed, closed_begin}
 use Rattle.clients.proofs.Settles.{settle_answer, settle_after}
 
 and_false : (b : Bool) → (b && false) ≡ false
@@ -39,18 +36,6 @@ module _ (m : StoreModel) (p : ℕ) (ps : Pairs) (fit : Fit ps) (free : begin_an
   lands_after =
       ap (λ n. settled_after n p) opened_is ∙ settle_after m p (begin_closed m p free) m.board nothing ps fit
       ∙ ap (λ b. leaves (cond b (Err Overtaken) (room m)) (λ _. committed m ps) m) no_clash ∙ ap (λ r. leaves (bind r (λ _. room m)) (λ _. committed m ps) m) (sym free)
-
--- work that was opened with these pairs, and is settled
-module _ (m m₁ : StoreModel) (p : ℕ) (w : Work) (ps : Pairs) (fit : Fit ps) (opened : Ok w ≡ begun p (begin_answer m p)) (wrote : m₁ ≡ opened_after m p ps) where
-  pub settled_answer : {r : Result (Unit {0}) StoreFault} → r ≡ commit_answer m₁ w.place → r ≡ write_set_answer m p
-  settled_answer e =
-      let b = begun_is p w (begin_answer m p) opened in
-      e ∙ ap (λ n. commit_answer n w.place) wrote ∙ ap (λ q. commit_answer (opened_after m p ps) q) b.1 ∙ lands_answer m p ps fit b.0
-
-  pub settled_left : {m₂ : StoreModel} → m₂ ≡ settled_after m₁ w.place → m₂ ≡ write_set_after m p ps
-  settled_left e =
-      let b = begun_is p w (begin_answer m p) opened in
-      e ∙ ap (λ n. settled_after n w.place) wrote ∙ ap (λ q. settled_after (opened_after m p ps) q) b.1 ∙ lands_after m p ps fit b.0
 
 -- ---- where nothing refuses it
 

@@ -2,6 +2,7 @@ mod Pairs
 mod Writes
 mod Settles
 mod Landing
+mod AtStore
 mod Racing
 mod FirstWins
 mod AtBank

@@ -1,7 +1,7 @@
--- The pairs of a write set, one by one and as own writes. Assumes nothing.
-use Rattle.std.proofs.Common.{◌≡◌, ℕ, suc, ◌+◌, ◌<◌, ◌≤◌, Bool, true, false, cond, eqb, ltb, leb, ◌⊎◌, [], ◌∷◌, length, get_or, drop, is_some, Some, None, Option, sym, refl, ap, ◌∙◌, ⊎_elim, arith}
-use Rattle.std.proofs.lemmas.List.{drop_more, drop_all, ext_get_or}
-use Rattle.std.proofs.lemmas.Bool.{ltb-true, ltb-false, leb-true, eq-eqb, ne_eqb, cases_eq, cases_lt, and_parts}
+-- The pairs of a write set, as own writes. Assumes nothing.
+use Rattle.std.proofs.Common.{◌≡◌, ℕ, suc, ◌<◌, ◌≤◌, Bool, true, false, eqb, ltb, leb, ◌⊎◌, [], ◌∷◌, length, get_or, is_some, Some, None, Option, sym, refl, ap, ◌∙◌, ⊎_elim, arith}
+use Rattle.std.proofs.lemmas.List.{ext_get_or}
+use Rattle.std.proofs.lemmas.Bool.{ltb-true, leb-true, eq-eqb, ne_eqb, cases_eq, cases_lt, and_parts}
 use Rattle.tickets.specs.Boards.{Board}
 use Rattle.tickets.specs.WriteSets.{Pairs, rising, lookup, stands, play, over}
 use Rattle.tickets.specs.Meaning.{pairs}
@@ -20,31 +20,6 @@ pub record Fit (ps : Pairs) : Type 0 where
 
 pub set_fits : (w : WriteSet) → Fit (pairs w)
 set_fits w = let n = length_pairs w in let s = some_pairs w in record { some = omega arith; few = omega arith; rises = pairs_rise w }
-
--- ---- one by one
-
-abbrev pub pair_at : Pairs → ℕ → Option (ℕ × ℕ)
-pair_at ps i = cond (ltb i (length ps)) (Some (get_or ps i (0, 0))) None
-
-there : (b : Bool) (x q : ℕ × ℕ) → Some q ≡ cond b (Some x) None → (b ≡ true) × (q ≡ x)
-there true x q e = (refl, cc)
-there false x q e = let z : ◌≡◌ {A = ℕ} 0 1 = cc in absurd (omega arith)
-
-past : (b : Bool) (x : ℕ × ℕ) → None ≡ cond b (Some x) None → b ≡ false
-past true x e = let z : ◌≡◌ {A = ℕ} 0 1 = cc in absurd (omega arith)
-past false x e = refl
-
-pub next_within : (ps : Pairs) (i : ℕ) (q : ℕ × ℕ) → Some q ≡ pair_at ps i → i < length ps
-next_within ps i q e = ltb-true i (length ps) (there (ltb i (length ps)) (get_or ps i (0, 0)) q e).0
-
-pub next_pair : (ps : Pairs) (i : ℕ) (q : ℕ × ℕ) → Some q ≡ pair_at ps i → drop i ps ≡ q ∷ drop (i + 1) ps
-next_pair ps i q e = drop_more ps i (0, 0) (next_within ps i q e) ∙ ap (λ x. x ∷ drop (i + 1) ps) (sym (there (ltb i (length ps)) (get_or ps i (0, 0)) q e).1)
-
-pub past_all : (ps : Pairs) (i : ℕ) → None ≡ pair_at ps i → length ps ≤ i
-past_all ps i e = ltb-false i (length ps) (past (ltb i (length ps)) (get_or ps i (0, 0)) e)
-
-pub no_pair : (ps : Pairs) (i : ℕ) → None ≡ pair_at ps i → drop i ps ≡ []
-no_pair ps i e = drop_all i ps (past_all ps i e)
 
 -- ---- objects that rise
 

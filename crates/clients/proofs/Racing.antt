@@ -13,7 +13,7 @@ use Rattle.clients.specs.declared.race.Entry.{Entry}
 use Rattle.clients.specs.declared.race.Order.{Order}
 use Rattle.clients.specs.declared.race.Order.TheVariants.{LeftFirst, RightFirst}
 use Rattle.clients.specs.Committed.{Closed, room, written_place, opened_after, committed}
-use Rattle.clients.specs.Steps.{settled_after}
+use Rattle.banks.specs.Steps.{settled_after}
 use Rattle.clients.specs.Races.{first_of, second_of, settled_race, settled_both, both_opened, second_answer, raced, raced_after, winner, loser, race_answer, race_after}
 use Rattle.clients.proofs.Pairs.{Fit, set_fits, stands_within}
 use Rattle.clients.proofs.Writes.{begin_closed, place_put, put_put, ok_not_err}

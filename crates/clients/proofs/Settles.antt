@@ -5,38 +5,13 @@ use Rattle.std.proofs.lemmas.Bool.{ne_eqb, cases_eq, cond-true, eq-eqb}
 use Rattle.tickets.specs.Boards.{Board}
 use Rattle.tickets.specs.WriteSets.{Pairs, lookup, stands}
 use Rattle.stores.specs.declared.fault.StoreFault.{StoreFault}
-use Rattle.stores.specs.declared.fault.StoreFault.TheVariants.{NoObject, NoPlace, NinthObject, Overtaken, Full, PlaceOpen, PlaceClosed}
-use Rattle.stores.specs.declared.work.Work.{Work}
-use Rattle.stores.specs.declared.work.Unfinished.TheVariants.{Back}
-use Rattle.stores.specs.Model.{StoreModel, Place, with_place, own_count, clashes, count_below, commit_answer, commit_after, abort_after, landed, overtaken_by, spread, leaves}
-use Rattle.stores.specs.Works.{ended}
+use Rattle.stores.specs.declared.fault.StoreFault.TheVariants.{Overtaken, Full}
+use Rattle.stores.specs.Model.{StoreModel, Place, with_place, own_count, clashes, count_below, commit_answer, landed, overtaken_by, spread, leaves}
 use Rattle.stores.proofs.Steps.{same_place}
 use Rattle.clients.specs.Committed.{Closed, room, committed}
-use Rattle.clients.specs.Steps.{ended_after, settled_after}
+use Rattle.banks.specs.Steps.{ended_after, settled_after}
 use Rattle.clients.proofs.Pairs.{Fit, first_within, played_is_play}
 use Rattle.clients.proofs.Writes.{place_put, put_put}
-
--- ---- only a full store hands work back
-
-pub handed_back : (w w' : Work) (e : StoreFault) (r : Result (Unit {0}) StoreFault) → Err (Back w' e) ≡ ended w r → (w' ≡ w) × (e ≡ Full) × (r ≡ Err Full)
-handed_back w w' e (Ok u) h = let z : ◌≡◌ {A = ℕ} 0 1 = cc in absurd (omega arith)
-handed_back w w' e (Err NoObject) h = let z : ◌≡◌ {A = ℕ} 0 1 = cc in absurd (omega arith)
-handed_back w w' e (Err NoPlace) h = let z : ◌≡◌ {A = ℕ} 0 1 = cc in absurd (omega arith)
-handed_back w w' e (Err NinthObject) h = let z : ◌≡◌ {A = ℕ} 0 1 = cc in absurd (omega arith)
-handed_back w w' e (Err Overtaken) h = let z : ◌≡◌ {A = ℕ} 0 1 = cc in absurd (omega arith)
-handed_back w w' e (Err Full) h = (cc, cc, refl)
-handed_back w w' e (Err PlaceOpen) h = let z : ◌≡◌ {A = ℕ} 0 1 = cc in absurd (omega arith)
-handed_back w w' e (Err PlaceClosed) h = let z : ◌≡◌ {A = ℕ} 0 1 = cc in absurd (omega arith)
-
-module _ (m m₁ : StoreModel) (w w' : Work) (e : StoreFault) (back : Err (Back w' e) ≡ ended w (commit_answer m w.place)) (left : m₁ ≡ commit_after m w.place) where
-  pub back_answer : Err e ≡ commit_answer m w.place
-  back_answer = let h = handed_back w w' e (commit_answer m w.place) back in ap (λ x. Err x) h.1 ∙ sym h.2
-
-  pub back_after : {m₂ : StoreModel} → m₂ ≡ abort_after m₁ w'.place → m₂ ≡ settled_after m w.place
-  back_after a =
-      let h = handed_back w w' e (commit_answer m w.place) back in
-      a ∙ ap (λ n. abort_after n w'.place) left ∙ ap (λ (x : Work). abort_after (commit_after m w.place) x.place) h.0
-      ∙ ap (λ r. ended_after (commit_after m w.place) w.place r) (sym h.2)
 
 -- ---- a place that is open beside the others, with a write set of its own
 

@@ -1,48 +1,15 @@
--- Writes in a row at a store: one more, and a whole write set into a place that was just opened. Assumes nothing.
-use Rattle.std.proofs.Common.{◌≡◌, ℕ, zero, suc, ◌+◌, ◌<◌, ◌≤◌, Bool, true, false, cond, ◌||◌, ltb, [], ◌∷◌, length, get_or, drop, set, is_some, Some, None, Ok, Err, Option, Result, sym, refl, ap, ◌∙◌, ⊎_elim, arith}
+-- A whole write set written into a place that was just opened. Assumes nothing.
+use Rattle.std.proofs.Common.{◌≡◌, ℕ, zero, suc, ◌+◌, ◌<◌, ◌≤◌, Bool, true, false, cond, ◌||◌, ltb, [], ◌∷◌, length, get_or, set, is_some, Some, None, Ok, Err, Option, Result, sym, refl, ap, ◌∙◌, ⊎_elim, arith}
 use Rattle.std.proofs.lemmas.List.{length-set, get_or-set_same, set-set}
 use Rattle.std.proofs.lemmas.Bool.{lt-ltb, ltb-true, ne_eqb, cases_eq, or_right}
 use Rattle.tickets.specs.WriteSets.{Pairs, rising}
 use Rattle.stores.specs.declared.fault.StoreFault.{StoreFault}
 use Rattle.stores.specs.declared.fault.StoreFault.TheVariants.{NoPlace}
-use Rattle.stores.specs.Model.{StoreModel, Place, place_at, vacant, with_place, with_own, write_place, write_answer, write_after, own_count, written, count_below, begin_answer, begin_after, fresh, leaves, done}
-use Rattle.stores.specs.Works.{begun}
-use Rattle.stores.specs.declared.work.Work.{Work}
+use Rattle.stores.specs.Model.{StoreModel, Place, place_at, vacant, with_place, with_own, write_answer, write_after, own_count, written, count_below, begin_answer, begin_after, fresh, leaves}
+use Rattle.banks.proofs.Writes.{writes_ok}
 use Rattle.clients.specs.Committed.{Closed, written_place, opened_after}
-use Rattle.clients.specs.Steps.{writes_answer, writes_after}
-use Rattle.clients.proofs.Pairs.{Fit, pair_at, next_pair, first_within, own_from, own_is_lookup}
-
--- ---- one more
-
-refused_same : {A : Type 0} (r : Result A StoreFault) (f : A → StoreModel) (m : StoreModel) (e : StoreFault) → done r ≡ Err e → leaves r f m ≡ m
-refused_same (Ok a) f m e h = let z : ◌≡◌ {A = ℕ} 0 1 = cc in absurd (omega arith)
-refused_same (Err d) f m e h = refl
-
-module _ (m : StoreModel) (p : ℕ) (q : ℕ × ℕ) (ps : Pairs) where
-  writes_ok : write_answer m p q.0 q.1 ≡ Ok tt
-      → (writes_answer m p (q ∷ ps) ≡ writes_answer (write_after m p q.0 q.1) p ps) × (writes_after m p (q ∷ ps) ≡ writes_after (write_after m p q.0 q.1) p ps)
-  writes_ok e = (rw e, rw e)
-
-  writes_err : (f : StoreFault) → write_answer m p q.0 q.1 ≡ Err f
-      → (writes_answer m p (q ∷ ps) ≡ Err f) × (writes_after m p (q ∷ ps) ≡ m) × (write_after m p q.0 q.1 ≡ m)
-  writes_err f e = (rw e, rw e, refused_same (write_place m p q.0 q.1) _ m f e)
-
--- the i-th pair is written, and what is left gives what was left
-module _ (m m' : StoreModel) (p : ℕ) (ps : Pairs) (i : ℕ) (q : ℕ × ℕ) (next : Some q ≡ pair_at ps i) (wrote : m' ≡ write_after m p q.0 q.1) where
-  pub write_goes_on : Ok tt ≡ write_answer m p q.0 q.1
-      → (writes_answer m' p (drop (i + 1) ps) ≡ writes_answer m p (drop i ps)) × (writes_after m' p (drop (i + 1) ps) ≡ writes_after m p (drop i ps))
-  write_goes_on e =
-      let d = next_pair ps i q next in
-      let w = writes_ok m p q (drop (i + 1) ps) (sym e) in (
-        ap (λ n. writes_answer n p (drop (i + 1) ps)) wrote ∙ sym w.0 ∙ ap (writes_answer m p) (sym d),
-        ap (λ n. writes_after n p (drop (i + 1) ps)) wrote ∙ sym w.1 ∙ ap (writes_after m p) (sym d),
-      )
-
-  pub write_stops : (f : StoreFault) → Err f ≡ write_answer m p q.0 q.1 → (Err f ≡ writes_answer m p (drop i ps)) × (m' ≡ writes_after m p (drop i ps))
-  write_stops f e =
-      let d = next_pair ps i q next in
-      let w = writes_err m p q (drop (i + 1) ps) f (sym e) in
-      (sym w.0 ∙ ap (writes_answer m p) (sym d), wrote ∙ w.2 ∙ sym w.1 ∙ ap (writes_after m p) (sym d))
+use Rattle.banks.specs.Steps.{writes_answer, writes_after}
+use Rattle.clients.proofs.Pairs.{Fit, first_within, own_from, own_is_lookup}
 
 -- ---- counts
 
@@ -132,28 +99,5 @@ open_writes m p ps fit free =
     ap (λ own. with_place m p (Some (record { snapshot = b; own = own; overtaken = λ j. false }))) (own_is_lookup ps fit.rises) in
     (ap (λ n. writes_answer n p ps) a ∙ w.0, ap (λ n. writes_after n p ps) a ∙ w.1 ∙ s ∙ sym o)
 
--- ---- work that was begun
-
-pub begun_is : (p : ℕ) (w : Work) (r : Result (Unit {0}) StoreFault) → Ok w ≡ begun p r → (r ≡ Ok tt) × (w.place ≡ p)
-begun_is p w (Ok u) e = let f : w ≡ record { place = p } = cc in (refl, ap (λ (x : Work). x.place) f)
-begun_is p w (Err d) e = let z : ◌≡◌ {A = ℕ} 0 1 = cc in absurd (omega arith)
-
-pub begun_err : (p : ℕ) (e : StoreFault) (r : Result (Unit {0}) StoreFault) → Err e ≡ begun p r → r ≡ Err e
-begun_err p e (Ok u) h = let z : ◌≡◌ {A = ℕ} 0 1 = cc in absurd (omega arith)
-begun_err p e (Err d) h = cc
-
 pub ok_not_err : (e : StoreFault) → ◌≡◌ {A = Result (Unit {0}) StoreFault} (Err e) (Ok tt) → ⊥
 ok_not_err e h = let z : ◌≡◌ {A = ℕ} 0 1 = cc in omega arith
-
-module _ (m m₁ : StoreModel) (p : ℕ) (w : Work) (ps : Pairs) (fit : Fit ps) (opened : Ok w ≡ begun p (begin_answer m p)) (began : m₁ ≡ begin_after m p) where
-  pub opened_at : w.place ≡ p
-  opened_at = (begun_is p w (begin_answer m p) opened).1
-
-  pub opened_free : begin_answer m p ≡ Ok tt
-  opened_free = (begun_is p w (begin_answer m p) opened).0
-
-  pub opened_with : {m₂ : StoreModel} → m₂ ≡ writes_after m₁ w.place ps → m₂ ≡ opened_after m p ps
-  opened_with e = e ∙ ap (λ n. writes_after n w.place ps) began ∙ ap (λ q. writes_after (begin_after m p) q ps) opened_at ∙ (open_writes m p ps fit opened_free).1
-
-  pub never_refused : (e : StoreFault) → Err e ≡ writes_answer m₁ w.place ps → ⊥
-  never_refused e h = ok_not_err e (h ∙ ap (λ n. writes_answer n w.place ps) began ∙ ap (λ q. writes_answer (begin_after m p) q ps) opened_at ∙ (open_writes m p ps fit opened_free).0)

@@ -1,4 +1,3 @@
 pub mod Committed
-pub mod Steps
 pub mod Races
 pub mod AtBank

@@ -10,7 +10,7 @@ use Rattle.clients.specs.declared.race.Order.{Order}
 use Rattle.clients.specs.declared.race.Order.TheVariants.{LeftFirst, RightFirst}
 use Rattle.clients.specs.declared.race.Race.{Race}
 use Rattle.clients.specs.Committed.{Closed, room, committed, Landed}
-use Rattle.clients.specs.Steps.{settled_after}
+use Rattle.banks.specs.Steps.{settled_after}
 
 -- what comes first in the order, and the other one
 abbrev pub first_of : {A : Type 0} → Order → A → A → A

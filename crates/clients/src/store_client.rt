@@ -1,59 +1,24 @@
-// A write set that is committed in a place of its own, at any store.
-ghost use Rattle.std.specs.Prelude.{◌≡◌};
+// A write set that is committed in a place of its own, at any store: at the one replica of the bank that a store is.
+ghost use Rattle.std.specs.Prelude.{◌≡◌, Result};
 ghost use Rattle.tickets.specs.Meaning.{pairs};
-ghost use Rattle.stores.specs.Model.{begin_answer, commit_answer};
-ghost use Rattle.stores.specs.Works.{place_of, begun};
-ghost use Rattle.clients.specs.Committed.{opened_after, write_set_answer, write_set_after, Lands};
-ghost use Rattle.clients.specs.Steps.{writes_answer, writes_after, settled_after};
+ghost use Rattle.stores.specs.declared.fault.StoreFault.{StoreFault as Fault};
+ghost use Rattle.banks.specs.Model.{lifted};
+ghost use Rattle.clients.specs.Committed.{write_set_answer, write_set_after, Lands};
 
-use stores::{Store, StoreFault, Unfinished, Work};
+use crate::bank_client::write_and_commit_at;
+use banks::BankFault;
+use stores::{Store, StoreFault};
 use tickets::WriteSet;
 
-// Writes each pair in turn, up to the first that is refused.
-fn write_all<S: Store>(store: &mut S, work: &Work, set: &WriteSet) -> Result<(), StoreFault>
-    ensures answer { result ≡ writes_answer (S.Store.meaning store.old) (place_of work.now) (pairs set.now) }
-    ensures after { S.Store.meaning store.new ≡ writes_after (S.Store.meaning store.old) (place_of work.now) (pairs set.now) }
+// What a bank of one answered at replica 0, as its store answers it.
+pub(crate) fn at_store<T>(answer: Result<T, BankFault>) -> Result<T, StoreFault>
+    requires { (q : Result T Fault) × (answer ≡ lifted 0 q) }
+    ensures { answer ≡ lifted 0 result }
 {
-    let mut i = 0;
-    while let Some(pair) = set.pair(i) {
-        work.write(store, pair.object, pair.value)?;
-        i += 1;
-    }
-    Ok(())
-}
-
-// Opens a place and writes the set there. A write set fits into a place that was just opened, so no write is refused.
-pub(crate) fn open_with<S: Store>(
-    store: &mut S,
-    place: usize,
-    set: &WriteSet,
-) -> Result<Work, StoreFault>
-    ensures answer { result ≡ begun place (begin_answer (S.Store.meaning store.old) place) }
-    ensures after { S.Store.meaning store.new ≡ opened_after (S.Store.meaning store.old) place (pairs set.now) }
-{
-    let work = Work::begin(store, place)?;
-    match write_all(store, &work, set) {
-        Ok(_) => Ok(work),
-        Err(e) => {
-            let _ = work.abort(store);
-            Err(e)
-        }
-    }
-}
-
-// Commits the work, or aborts it where the store is full.
-pub(crate) fn settle<S: Store>(store: &mut S, work: Work) -> Result<(), StoreFault>
-    ensures answer { result ≡ commit_answer (S.Store.meaning store.old) (place_of work) }
-    ensures after { S.Store.meaning store.new ≡ settled_after (S.Store.meaning store.old) (place_of work) }
-{
-    match work.commit(store) {
-        Ok(x) => Ok(x),
-        Err(Unfinished::Ended(e)) => Err(e),
-        Err(Unfinished::Back(back, e)) => {
-            let _ = back.abort(store);
-            Err(e)
-        }
-    }
+    answer.map_err(|fault| match fault {
+        BankFault::At(_, fault) => fault,
+        BankFault::NoReplica(_) => unreachable!(),
+    })
 }
 
 /// Commits a write set in a place that is not open. A refusal leaves the store as it was.
@@ -66,6 +31,5 @@ pub fn write_and_commit<S: Store>(
     ensures after { S.Store.meaning store.new ≡ write_set_after (S.Store.meaning store.old) place (pairs set.now) }
     ensures law { Lands (S.Store.meaning store.old) place (pairs set.now) result (S.Store.meaning store.new) }
 {
-    let work = open_with(store, place, set)?;
-    settle(store, work)
+    at_store(write_and_commit_at(store, 0, place, set))
 }

@@ -1,4 +1,3 @@
 pub mod Model
 pub mod Faults
 pub mod Seated
-pub mod Works

@@ -1,4 +1,4 @@
-use Rattle.std.proofs.Common.{Err, ap, ◌∙◌}
+use Rattle.std.proofs.Common.{Err, sym, ap, ◌∙◌}
 use Rattle.std.proofs.lemmas.Result.{err_from_is_err_and}
 use Rattle.tickets.specs.Meaning.{pairs}
 use Rattle.clients.proofs.Pairs.{set_fits}
@@ -15,17 +15,18 @@ returns-in_err-work g c =
       after = open_refused ms _ c.args.replica c.args.place (pairs c.args.set.now) (set_fits c.args.set.now) b.after _ b.answer;
     }
 
-pub returns-in-Ok : goal.returns-in-Ok
-returns-in-Ok g c =
+pub unreachable-requires : goal.unreachable-requires
+unreachable-requires g c =
+    let ms = g.B.Bank.stores c.args.bank.now in
+    let b = c.in_ok-work.ensures in
+    let refused = sym c.in_default.is ∙ c.write_all.ensures.answer in
+    open_never ms _ c.args.replica c.args.place (pairs c.args.set.now) (set_fits c.args.set.now) b.after c.in_ok-work.work b.answer _ refused
+
+pub returns : goal.returns
+returns g c =
     let ms = g.B.Bank.stores c.args.bank.now in
     let b = c.in_ok-work.ensures in
     record {
       answer = b.answer;
       after = open_written ms _ c.args.replica c.args.place (pairs c.args.set.now) (set_fits c.args.set.now) b.after c.in_ok-work.work b.answer c.write_all.ensures.after;
     }
-
-pub returns-in-Err : goal.returns-in-Err
-returns-in-Err g c =
-    let ms = g.B.Bank.stores c.args.bank.now in
-    let b = c.in_ok-work.ensures in
-    absurd (open_never ms _ c.args.replica c.args.place (pairs c.args.set.now) (set_fits c.args.set.now) b.after c.in_ok-work.work b.answer _ c.in-Err.ensures.answer)

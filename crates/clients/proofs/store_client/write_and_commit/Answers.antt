@@ -1,15 +1,21 @@
-use Rattle.std.proofs.Common.{◌∙◌}
+use Rattle.std.proofs.Common.{sym, refl, ◌∙◌}
 use Rattle.tickets.specs.Meaning.{pairs}
-use Rattle.clients.proofs.Pairs.{set_fits}
-use Rattle.clients.proofs.Landing.{settled_answer, settled_left, lands, landed}
+use Rattle.clients.specs.Committed.{write_set_answer, write_set_after}
+use Rattle.clients.proofs.AtStore.{same_answer, answered, left}
+use Rattle.clients.proofs.Landing.{lands, landed}
 use Rattle.clients.proofs.store_client.write_and_commit.Goals as goal
+
+pub at_store-requires : goal.at_store-requires
+at_store-requires g c =
+    let m = g.S.Store.meaning c.args.store.now in
+    let p = c.args.place in
+    (write_set_answer m p, answered m (λ n. write_set_answer n p) 0 refl c.write_and_commit_at.ensures.answer)
 
 pub returns : goal.returns
 returns g c =
     let m = g.S.Store.meaning c.args.store.now in
     let p = c.args.place in
     let ps = pairs c.args.set.now in
-    let o = c.in_ok-work.ensures in
-    let answer = settled_answer m _ p c.in_ok-work.work ps (set_fits c.args.set.now) o.answer o.after c.settle.ensures.answer in
-    let after = settled_left m _ p c.in_ok-work.work ps (set_fits c.args.set.now) o.answer o.after c.settle.ensures.after in
+    let answer = same_answer _ _ (sym c.at_store.ensures ∙ answered m (λ n. write_set_answer n p) 0 refl c.write_and_commit_at.ensures.answer) in
+    let after = left m (λ n. write_set_after n p ps) 0 refl c.write_and_commit_at.ensures.after in
     record { answer = answer; after = after; law = λ closed less. (answer ∙ lands m p ps closed less, landed m p ps closed less after) }
