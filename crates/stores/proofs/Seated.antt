@@ -84,10 +84,6 @@ pub each_opened : {P : Type 0} (Q : Option P → Type 0) (r : Result (Unit {0}) 
 each_opened Q (Ok u) seats p x each q = each_set Q seats p (Some x) each q
 each_opened Q (Err fault) seats p x each q = each
 
-pub each_changed : {P R : Type 0} (Q : Option P → Type 0) (Changes : P → Result R StoreFault → P → Type 0) (o : Result P StoreFault) (xs : List (Option P)) (p : ℕ) (r : Result R StoreFault) (ys : List (Option P)) → held_in xs p ≡ o → Changed Changes o xs p r ys → ((k : ℕ) → Q (get_or xs k None)) → ((x y : P) → Q (Some x) → Changes x r y → Q (Some y)) → (k : ℕ) → Q (get_or ys k None)
-each_changed Q Changes (Err fault) xs p r ys e c each keeps = subst (λ zs. (k : ℕ) → Q (get_or zs k None)) (sym c.1) each
-each_changed Q Changes (Ok x) xs p r ys e c each keeps = subst (λ zs. (k : ℕ) → Q (get_or zs k None)) (sym c.2) (each_set Q xs p (Some c.0) each (keeps x c.0 (subst Q (held_is xs p x e) (each p)) c.1))
-
 pub each_turned : {P : Type 0} (Q : Option P → Type 0) (Changes : P → P → Type 0) (a b : Option P) → SeatChanged Changes a b → Q None → Q a → ((x y : P) → Q (Some x) → Changes x y → Q (Some y)) → Q b
 each_turned Q Changes (Some x) (Some y) c n q keeps = keeps x y q c
 each_turned Q Changes None None c n q keeps = n

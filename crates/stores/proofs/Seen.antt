@@ -1,12 +1,12 @@
 -- A store whose places mean what stands in its seats: what is done with the seats is done with the places. Assumes nothing.
-use Rattle.std.proofs.Common.{◌≡◌, ℕ, ◌<◌, ◌≤◌, Bool, true, false, cond, ltb, List, map, length, get_or, set, is_some, Some, None, Ok, Err, Option, Result, sym, refl, ap, ◌∙◌, ⊎_elim, subst, arith}
+use Rattle.std.proofs.Common.{◌≡◌, ℕ, ◌<◌, ◌≤◌, Bool, true, false, cond, ltb, List, map, length, get_or, set, Some, None, Ok, Err, Option, Result, sym, refl, ap, ◌∙◌, ⊎_elim, subst, arith}
 use Rattle.std.specs.Option.{option_map}
 use Rattle.std.proofs.lemmas.List.{length-map, get_or-map, map-set, ext_get_or}
 use Rattle.std.proofs.lemmas.Bool.{cases_lt, le-ltb}
 use Rattle.stores.specs.declared.fault.StoreFault.{StoreFault}
 use Rattle.stores.specs.declared.fault.StoreFault.TheVariants.{NoPlace}
-use Rattle.stores.specs.Model.{StoreModel, Place, held, vacant, seat_in, bind, done, leaves, kept, fresh, write_at, with_place, place_at, begin_answer, begin_after, write_answer, write_after, abort_answer, abort_after, open_answer, overtaken_by}
-use Rattle.stores.specs.Seated.{held_in, vacant_in, open_in, opened, Changed, Updates, SeatChanged, ChangesEach}
+use Rattle.stores.specs.Model.{StoreModel, Place, held, vacant, seat_in, bind, done, leaves, kept, fresh, write_at, with_place, place_at, begin_answer, begin_after, write_answer, write_after, abort_after, overtaken_by}
+use Rattle.stores.specs.Seated.{held_in, vacant_in, opened, Changed, Updates, SeatChanged, ChangesEach}
 use Rattle.stores.proofs.Seated.{in_seat, closed_again}
 use Rattle.stores.proofs.Steps.{seat_has, same_place, kept_leaves}
 
@@ -42,18 +42,11 @@ module _ {X : Type 0} (f : X → Place) (xs : List (Option X)) (p : ℕ) where
   vacant_alike (Some x) = refl
   vacant_alike None = refl
 
-  open_alike : (o : Option X) → ◌≡◌ {A = Result Bool StoreFault} (Ok (is_some (option_map f o))) (Ok (is_some o))
-  open_alike (Some x) = refl
-  open_alike None = refl
-
   pub held_seen : held_in (map (option_map f) xs) p ≡ bind (held_in xs p) (λ x. Ok (f x))
   held_seen = seat_seen held (λ o. bind (held o) (λ x. Ok (f x))) held_alike ∙ sym (bind_cond (ltb p (length xs)) (held (get_or xs p None)) (λ x. Ok (f x)))
 
   pub vacant_seen : vacant_in (map (option_map f) xs) p ≡ vacant_in xs p
   vacant_seen = seat_seen vacant vacant vacant_alike
-
-  pub open_seen : open_in (map (option_map f) xs) p ≡ open_in xs p
-  open_seen = seat_seen (λ o. Ok (is_some o)) (λ o. Ok (is_some o)) open_alike
 
 module _ {X : Type 0} (m : StoreModel) (f : X → Place) (xs : List (Option X)) (at : m.places ≡ map (option_map f) xs) (p : ℕ) where
   pub place_seen : place_at m p ≡ bind (held_in xs p) (λ x. Ok (f x))
@@ -61,9 +54,6 @@ module _ {X : Type 0} (m : StoreModel) (f : X → Place) (xs : List (Option X)) 
 
   pub begin_seen : begin_answer m p ≡ vacant_in xs p
   begin_seen = ap (λ ps. vacant_in ps p) at ∙ vacant_seen f xs p
-
-  pub is_open_seen : open_answer m p ≡ open_in xs p
-  is_open_seen = ap (λ ps. open_in ps p) at ∙ open_seen f xs p
 
   set_seen : (o : Option X) → with_places m (map (option_map f) (set xs p o)) ≡ with_place m p (option_map f o)
   set_seen o = ap (with_places m) (map-set (option_map f) xs p o ∙ ap (λ ps. set ps p (option_map f o)) (sym at))
@@ -86,13 +76,6 @@ module _ {X : Type 0} (m : StoreModel) (f : X → Place) (xs : List (Option X)) 
 
   pub closed_seen : with_places m (map (option_map f) (set xs p None)) ≡ abort_after m p
   closed_seen = closed_by (held_in xs p) refl ∙ ap (λ r. leaves r (λ _. with_place m p None) m) (sym place_seen)
-
-  done_alike : (r : Result X StoreFault) → done r ≡ done (bind r (λ x. Ok (f x)))
-  done_alike (Ok x) = refl
-  done_alike (Err fault) = refl
-
-  pub abort_seen : done (held_in xs p) ≡ abort_answer m p
-  abort_seen = done_alike (held_in xs p) ∙ ap done (sym place_seen)
 
   -- a write, made where the place lies
   module _ (j v : ℕ) (Changes : X → Result (Unit {0}) StoreFault → X → Type 0)

@@ -75,6 +75,7 @@ impl<P> Seats<P> {
         requires { F.IsAlwaysCallable change }
         ensures after { Updates (FnOnceReturnsAtMut F.FnOnce change) (seats_of self.old) place result (seats_of self.new) }
     {
+        // by its index: behind a `get_mut` the proof knows none of the seats
         if place >= self.seats.len() {
             return Err(StoreFault::NoPlace);
         }
@@ -89,6 +90,7 @@ impl<P> Seats<P> {
         requires { F.IsAlwaysCallable change }
         ensures after { ChangesEach (Leaves F.Fn change) (seats_of self.old) (seats_of self.new) }
     {
+        // seat by seat: behind a `flatten` the proof knows none of the seats after the loop
         for seat in self.seats.iter_mut() {
             if let Some(here) = seat {
                 change(here);

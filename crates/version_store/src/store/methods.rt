@@ -1,5 +1,5 @@
 // What a version store does: each call of a store, and the few steps that they share.
-ghost use Rattle.std.specs.Prelude.{◌≡◌, ◌<◌, ◌≤◌, replicate, IfOk, if◌then◌else◌, Some, None, Ok, Err, OnOk, nat_eq};
+ghost use Rattle.std.specs.Prelude.{◌≡◌, ◌≤◌, replicate, IfOk, if◌then◌else◌, None, Ok, Err, nat_eq};
 ghost use Rattle.stores.specs.Model.{place_at, spread};
 ghost use Rattle.versions.specs.Writes.{own_of};
 ghost use Rattle.versions.specs.Meaning.{history_of, land_answer};
