@@ -3,7 +3,7 @@
 # usage: sh tools/places.sh [POINT]      at the top of the repository; a point from 1 to 8, or all of them
 set -u
 cd "$(dirname "$0")/.."
-files=$(find crates -path '*/src/*.rt' | sort)
+files=$(find crates/*/src -name '*.rt' | sort)
 
 # lists the lines that fit a pattern, with the number of them
 list() {

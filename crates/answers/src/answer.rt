@@ -14,6 +14,6 @@ pub enum Printed {
     OkRead,
     // aborted by the write set of this number
     Abort(u32),
-    // refused: the refusal's number, and the line, counted from 1
+    // refused: the refusal's number, and the line, counted from 1; a number, for a line of answers has no other word for a refusal
     No { number: u32, line: u32 },
 }

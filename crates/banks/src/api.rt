@@ -10,6 +10,7 @@ use tickets::Pair;
 /// The most stores that a bank tells of: as many as a byte can number.
 pub const MOST_TOLD: usize = 256;
 
+// A replica and a place stand side by side in each call, as a caller names them. Who keeps both from call to call holds a `Work`.
 pub trait Bank {
     ghost stores: { Self → List StoreModel };
 

@@ -13,6 +13,9 @@ mod methods;
 // The most commits that write.
 pub const MOST: u32 = 65_535;
 
+/// How many places there are.
+pub const PLACES: usize = 16;
+
 #[derive(Drop)]
 pub struct CopyStore {
     board: [u32; OBJECTS],

@@ -1,4 +1,6 @@
 // What opening looks at: a replica's places, its commits and its values.
+// A bank and a replica are two parameters, and no struct: between two of these calls the engine changes the bank, so it would make
+// the struct anew for each.
 ghost use Rattle.std.specs.Prelude.{◌≡◌, is_some, None, slice_index_or};
 ghost use Rattle.tickets.specs.Boards.{value};
 ghost use Rattle.banks.specs.Model.{store_at};

@@ -10,6 +10,9 @@ use versions::History;
 
 mod methods;
 
+/// How many places there are.
+pub const PLACES: usize = 16;
+
 // No place began at a commit to come.
 #[derive(Drop)]
 pub struct VersionStore {

@@ -1,4 +1,5 @@
-// Commit: read-only, a number, or an abort by the lowest clash.
+// Commit: read-only, a number, or an abort by the lowest clash. A transaction goes through these steps beside its number, and in no
+// struct with it: the steps need both apart again, as the ledger takes them.
 ghost use Rattle.std.specs.Prelude.{◌≡◌};
 ghost use Rattle.tickets.specs.Meaning.{pairs};
 ghost use Rattle.machine.specs.Committing.{end_reading, end_clashing, register, validated, committing};
