@@ -8,7 +8,7 @@ use Rattle.marks.specs.Marked as marks
 use Rattle.marks.specs.Marked.{marked, with_mark, lowest_from, both}
 use Rattle.marks.proofs.Scans.{count_with}
 use Rattle.stores.specs.Model as model
-use Rattle.stores.specs.Model.{written, own_count, clashes, write_at, with_own, with_write, first_from, told_or, fresh, overtaken_by}
+use Rattle.stores.specs.Model.{written, own_count, clashes, write_at, with_own, with_write, first_from, told_or}
 use Rattle.copy_store.specs.declared.place.Place.{Place}
 use Rattle.copy_store.specs.Places.{own_of, place_of}
 
@@ -91,17 +91,3 @@ module _ (x : Place) (j v : ℕ) (h : j < 128) (w : Marks) (one_more : marked w 
       sym (count_is y) ∙ ap (λ f. marks.count_below f 128) marked_now ∙ count_with (marked x.wrote) j 128 h ∙ ap (λ n. cond (marked x.wrote j) 0 1 + n) (count_is x) in
       let b : (marked x.wrote j || ltb (own_count (place_of x)) 8) ≡ true = ap (λ f. f j || ltb (own_count (place_of x)) 8) (sym (written_is x)) ∙ room in
       omega (arith, grown, at_most_eight (marked x.wrote j) (own_count (place_of x)) few b)
-
--- a place that just began has none
-pub none_at_begin : (board : List ℕ) → own_count (fresh board) ≡ 0
-unfolding model.count_below
-none_at_begin board = refl
-
-count_in : Option model.Place → ℕ
-count_in (Some pl) = own_count pl
-count_in None = 0
-
--- being overtaken changes no own write
-pub few_overtaken : (x y : Place) (w : ℕ → Bool) → Some (place_of y) ≡ overtaken_by w (Some (place_of x)) → own_count (place_of x) ≤ 8 → own_count (place_of y) ≤ 8
-unfolding count_in
-few_overtaken x y w e few = let same : own_count (place_of y) ≡ own_count (place_of x) = ap count_in e in omega (arith, same, few)

@@ -1,11 +1,10 @@
 -- What a copy store keeps: at most eight own writes at each place, and only of the 128 objects. Assumes nothing.
-use Rattle.std.specs.Prelude.{◌≡◌, ℕ, zero, suc, ◌≤◌, Bool, cond, List, [], ◌∷◌, map, length, get_or, Some, None, Option, slice_index, slice_index_or, slice_set, refl}
-use Rattle.std.proofs.Common.{sym, ap, subst, ◌∙◌, ⊎_elim, arith}
-use Rattle.std.proofs.lemmas.List.{get_or-set_same, get_or-set_other, set_past}
-use Rattle.std.proofs.lemmas.Bool.{cases_eq, cases_lt}
+use Rattle.std.specs.Prelude.{◌≡◌, ℕ, zero, suc, ◌≤◌, Bool, cond, List, [], ◌∷◌, map, get_or, Some, None, Option, slice_index, slice_index_or, slice_set, refl}
+use Rattle.std.proofs.Common.{sym, ap, subst, ◌∙◌, arith}
 use Rattle.marks.proofs.Laws.{nothing_past}
 use Rattle.stores.specs.Model as model
 use Rattle.stores.specs.Model.{OwnLawful, own_count, fresh, count_below, overtaken_by}
+use Rattle.stores.proofs.Seated.{each_set}
 use Rattle.copy_store.specs.declared.place.Place.{Place}
 use Rattle.copy_store.specs.Places.{seat_of, own_writes}
 
@@ -14,12 +13,7 @@ abbrev pub Few : List (Option Place) → Type 0
 Few ps = (p : ℕ) → own_writes (slice_index_or ps p None) ≤ 8
 
 pub few_with : (ps : List (Option Place)) (p : ℕ) (o : Option Place) → Few ps → own_writes o ≤ 8 → Few (slice_set ps p o)
-few_with ps p o few l = λ k. ⊎_elim (here k) (λ ne. subst (λ s. own_writes s ≤ 8) (sym (get_or-set_other ps p k o None ne)) (few k)) (cases_eq k p)
-  where
-    here : (k : ℕ) → k ≡ p → own_writes (slice_index_or (slice_set ps p o) k None) ≤ 8
-    here k q = ⊎_elim
-        (λ h. subst (λ s. own_writes s ≤ 8) (sym (ap (λ n. get_or (slice_set ps p o) n None) q ∙ get_or-set_same ps p o None h)) l)
-        (λ h. subst (λ xs. own_writes (slice_index_or xs k None) ≤ 8) (sym (set_past ps p o h)) (few k)) (cases_lt p (length ps))
+few_with ps p o few l = each_set (λ s. own_writes s ≤ 8) ps p o few l
 
 -- a place that just began has none
 pub none_at_begin : (board : List ℕ) → own_count (fresh board) ≡ 0

@@ -83,9 +83,3 @@ each_set Q seats p o each q k = ⊎_elim here (λ ne. subst Q (sym (get_or-set_o
 pub each_opened : {P : Type 0} (Q : Option P → Type 0) (r : Result (Unit {0}) StoreFault) (seats : List (Option P)) (p : ℕ) (x : P) → ((k : ℕ) → Q (get_or seats k None)) → Q (Some x) → (k : ℕ) → Q (get_or (opened r seats p x) k None)
 each_opened Q (Ok u) seats p x each q = each_set Q seats p (Some x) each q
 each_opened Q (Err fault) seats p x each q = each
-
-pub each_turned : {P : Type 0} (Q : Option P → Type 0) (Changes : P → P → Type 0) (a b : Option P) → SeatChanged Changes a b → Q None → Q a → ((x y : P) → Q (Some x) → Changes x y → Q (Some y)) → Q b
-each_turned Q Changes (Some x) (Some y) c n q keeps = keeps x y q c
-each_turned Q Changes None None c n q keeps = n
-each_turned Q Changes (Some x) None c n q keeps = n
-each_turned Q Changes None (Some y) c n q keeps = absurd c

@@ -1,22 +1,24 @@
 -- The board with the own writes played, and the places overtaken.
-use Rattle.std.proofs.Common.{◌≡◌, ◌+◌, ◌≤◌, map, length, Some, Ok, sym, refl, ap, ◌∙◌, arith, rules}
+use Rattle.std.proofs.Common.{◌≡◌, ◌+◌, map, length, Ok, sym, refl, ap, ◌∙◌, arith, rules}
 use Rattle.marks.specs.Marked.{marked}
 use Rattle.stores.specs.Model.{bind, leaves, spread, written, overtaken_by}
 use Rattle.stores.proofs.Steps.{length-played}
-use Rattle.stores.proofs.Seated.{each_turned}
 use Rattle.stores.proofs.Seen.{place_seen, overtaken_seen}
 use Rattle.copy_store.specs.Copied.{meaning_of}
-use Rattle.copy_store.specs.Places.{place_of, own_writes}
-use Rattle.copy_store.proofs.Writes.{few_overtaken}
+use Rattle.copy_store.specs.Kept.{few_overtaken}
+use Rattle.copy_store.specs.Places.{place_of}
 use Rattle.copy_store.proofs.store.CopyStore.land.Goals as goal
 
 pub invariant_of-self-2-clause-whole : goal.invariant_of-self-2-clause-whole
 invariant_of-self-2-clause-whole c = ap length c.play.ensures.after ∙ length-played _ _ ∙ c.args.self.now.whole
 
 pub invariant_of-self-2-clause-few : goal.invariant_of-self-2-clause-few
-invariant_of-self-2-clause-few c = λ p.
-    each_turned (λ o. own_writes o ≤ 8) _ _ _ (c.for_each.ensures.after p) (omega arith) (c.args.self.now.few p)
-    (λ x y few made. let e : Some (place_of y) ≡ overtaken_by (marked c.wrote-wrote.result) (Some (place_of x)) = search rules in few_overtaken x y _ e few)
+invariant_of-self-2-clause-few c =
+    let old = c.args.self.now.places in
+    let new = c.for_each.new.self in
+    let w = marked c.wrote-wrote.result in
+    let long : length new.seats ≡ length old.seats = omega (arith, new.sixteen, old.sixteen) in
+    few_overtaken w old.seats new.seats (overtaken_seen place_of w _ (λ x y made. search rules) old.seats new.seats long c.for_each.ensures.after) c.args.self.now.few
 
 pub returns-clause-after : goal.returns-clause-after
 returns-clause-after c =
