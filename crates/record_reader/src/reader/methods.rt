@@ -48,8 +48,8 @@ impl<'a> Reader<'a> {
     pub fn item(&self, n: usize) -> Option<NumberedSet>
         ensures answer { option_map item_of result ≡ numbered (items_in (read_from self.now)) n }
     {
-        let at = self.span(n)?.start;
-        item_at(self.bytes, n, at)
+        let place = self.span(n)?;
+        item_at(self.bytes, n, place.start)
     }
 
     /// The body of an item, as a part of the record with its place; none where there is no such item.
