@@ -106,12 +106,6 @@ carried : {A : Type 0} (c : Call) (r : Result A BoardFault) (a : Answer') → re
 carried c (Ok x) a e n = subst (Asks (Queued c)) (sym e) tt
 carried c (Err f) a e n = subst (Asks (Queued c)) (sym e) n
 
--- an answer that is listed alike
-pub serves_listed : (c : Call) (before : Machine) (a b : Answer) (after : Machine) → b ≡ a → Serves c before a after → Serves c before b after
-serves_listed c before a b after e f sound =
-    let x = f sound in
-    record { answer = e ∙ x.answer; after = x.after; sound = x.sound }
-
 -- a call that changes nothing
 serves_told : (c : Call) (m : Machine) (a b : Answer) → (machine_step c m).1 ≡ m → b ≡ a → Tells c m a → Serves c m b m
 serves_told c m a b still e f sound =

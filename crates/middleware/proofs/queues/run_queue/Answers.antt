@@ -1,22 +1,13 @@
-use Rattle.std.proofs.Common.{◌≡◌, List, [], vec_items, sym, refl, subst, rules}
+use Rattle.std.proofs.Common.{List, [], vec_items, sym, refl, subst, rules}
 use Rattle.stores.specs.Model.{StoreModel}
 use Rattle.law.specs.History.Answer.{done}
 use Rattle.law.specs.Promise.{Promised}
 use Rattle.refinement.specs.Stores.{law_bank}
-use Rattle.middleware.specs.Listing.{fault_listed, past}
+use Rattle.middleware.specs.Listing.{past}
 use Rattle.middleware.specs.Meaning.{held}
 use Rattle.middleware.specs.Serving.{Made}
-use Rattle.middleware.proofs.Runs.{served, turned_down}
+use Rattle.middleware.proofs.Runs.{served}
 use Rattle.middleware.proofs.queues.run_queue.Goals as goal
-
-pub returns-in-Err-clause-law : goal.returns-in-Err-clause-law
-returns-in-Err-clause-law g c =
-    let stores = g.B.Bank.stores in
-    let ms = stores c.args.bank in
-    let queue = c.args.queue.now in
-    let made : Made ms (held stores c.in_ok-board.board) = search rules in
-    let refused = turned_down ms (g.met.B.Bank.lawful c.args.bank) queue (held stores c.in_ok-board.board) (held stores c.open.new.self) made (fault_listed c.in-Err.fault) c.in-Err.ensures.law c.in-Err.fault.reason refl in
-    subst (λ (k : List StoreModel). Promised (law_bank ms) queue (fault_listed c.in-Err.fault) [] (law_bank k) × (k ≡ ms)) (sym c.into_bank.ensures.answer) refused
 
 pub returns : goal.returns
 returns g c =
