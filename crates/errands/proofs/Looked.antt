@@ -1,12 +1,10 @@
 -- The steps of looking a copy over: its places one by one, and its objects one by one.
-use Rattle.std.proofs.Common.{◌≡◌, ℕ, zero, suc, ◌+◌, ◌<◌, ◌≤◌, Bool, true, false, cond, ◌||◌, ltb, not, ◌==◌, List, [], ◌∷◌, length, get_or, drop, is_some, Some, None, Ok, Err, Option, sym, refl, ap, ◌∙◌, subst, inl, inr, arith}
-use Rattle.std.specs.Array.{IsFromFnResultFrom}
-use Rattle.std.specs.Fn.{Mut, Called}
+use Rattle.std.proofs.Common.{◌≡◌, ℕ, zero, suc, ◌+◌, ◌≤◌, Bool, true, false, cond, ◌||◌, ltb, not, ◌==◌, List, [], ◌∷◌, length, get_or, drop, is_some, Some, None, Ok, Err, Option, sym, refl, ap, ◌∙◌, inl, inr, arith}
 use Rattle.std.specs.List.{find, list_any, position, position_from, enumerate_from, range_with_len}
 use Rattle.std.specs.Option.{option_map}
 use Rattle.std.specs.Result.{result_unwrap_or}
 use Rattle.std.proofs.lemmas.List.{at_drop_more, at_drop_all, get_or_past}
-use Rattle.std.proofs.lemmas.Bool.{cases_lt, cases_eq, ltb-false}
+use Rattle.std.proofs.lemmas.Bool.{cases_lt, ltb-false}
 use Rattle.std.proofs.lemmas.Iterator.Adapters.{option_map_id, position_from-zero}
 use Rattle.stores.specs.declared.fault.StoreFault.TheVariants.{NoPlace, NoObject}
 use Rattle.stores.specs.Model.{StoreModel, Place, Lawful, open_answer, value_answer}
@@ -72,15 +70,3 @@ first_unlike_at start b long =
     position_from-zero t (enumerate_from 0 start)
     ∙ position_first t (unlike start b) start 0 (λ i k e. let s : i ≡ k = omega arith in ap (λ n. not (get_or start n 0 == value b k)) s)
     ∙ ap (first_object (unlike start b) 0) long
-
--- ---- an array made by a closure that changes nothing
-
-module _ {F : Type 0} (g : Mut F (ℕ × Unit {0}) ℕ) {f : F} (h : ℕ → ℕ) (calls : (i y : ℕ) (q : F) → Called g f (i, tt) y q → (q ≡ f) × (y ≡ h i)) where
-  pub made_at : (ys : List ℕ) (i n : ℕ) → IsFromFnResultFrom g f ys i n → (k : ℕ) → i ≤ k → k < i + n → get_or ys k 0 ≡ h k
-  made_at ys i zero m k l u = absurd (omega arith)
-  made_at ys i (suc n) m k l u =
-      let c = calls i m.1 m.0 m.3 in
-      elim (cases_eq k i) [
-        | inl e ↦ ap (λ j. get_or ys j 0) e ∙ m.2.1 0 ∙ c.1 ∙ ap h (sym e)
-        | inr ne ↦ made_at ys (i + 1) n (subst (λ (p : F). IsFromFnResultFrom g p ys (i + 1) n) c.0 m.4) k (omega (arith, ne)) (omega arith)
-      ]

@@ -7,7 +7,6 @@ ghost use Rattle.banks.specs.Model.{store_at};
 ghost use Rattle.errands.specs.Copies.{any_open, used, first_above_top, first_unlike};
 
 use banks::Bank;
-use std::array;
 use tickets::{OBJECTS, top};
 
 // A store has at most so many places.
@@ -66,5 +65,9 @@ pub fn lowest_unlike<B: Bank>(bank: &B, replica: u8, start: &[u32; 128]) -> Opti
 pub fn starting_board<B: Bank>(bank: &B) -> [u32; 128]
     ensures answer { result ≡ (store_at (B.Bank.stores bank.now) 0).board }
 {
-    array::from_fn(|object| value_at(bank, 0, object))
+    let mut start = [0; OBJECTS];
+    for (object, value) in start.iter_mut().enumerate() {
+        *value = value_at(bank, 0, object);
+    }
+    start
 }
