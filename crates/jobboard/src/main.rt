@@ -12,7 +12,8 @@ use std::io::{Read, Write};
 const CHUNK: usize = 512;
 
 // Reads the script, no further than it takes to see that it is too long: one byte more than it may have, or the chunk that has
-// the line too many. Each turn but the last adds a byte at least.
+// the line too many. Each turn but the last adds a byte at least. (`take` and `read_to_end` would wait for the end of the input
+// where a script has a line too many.)
 fn read_script(rt: &HostRuntime) -> io::Result<Vec<u8>> {
     let mut script = Vec::new(rt.alloc());
     for _ in 0..SCRIPT_BYTES + 2 {
@@ -22,7 +23,7 @@ fn read_script(rt: &HostRuntime) -> io::Result<Vec<u8>> {
         if read == 0 {
             break;
         }
-        script.extend_from_slice(chunk.get(0..read).unwrap_or(&[]))?;
+        script.extend_from_slice(&chunk[..read])?;
         if !fits(&script) {
             break;
         }
