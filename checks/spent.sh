@@ -1,5 +1,5 @@
 #!/bin/sh
-# A held transaction and a store's work that are spent: the borrow check refuses a write with either,
+# A held transaction and work at a bank that are spent: the borrow check refuses a write with either,
 # and beginning again mends it. Run at the top of the repository; all is done in a scratch copy.
 set -eu
 
@@ -54,25 +54,25 @@ client() { # FIRST
         { echo "spent: BAD: the line behind the commit is not in shop_day once" >&2; exit 1; }
 }
 
-# A library of its own that writes to a store's work behind its commit, with FIRST in front of that write.
+# A library of its own that writes with work behind its commit, at any bank (a store is a bank of one), with FIRST in front of that write.
 mkdir -p "$scratch/crates/spent_work/src"
-echo 'spent_work: stores tickets' >>"$scratch/crates.txt"
+echo 'spent_work: banks stores tickets' >>"$scratch/crates.txt"
 work() { # FIRST
     cat >"$scratch/crates/spent_work/src/lib.rt" <<RATTLE
 #![tactic(auto)]
 
-use stores::{Store, StoreFault, Unfinished, Work};
+use banks::{Bank, BankFault, Unfinished, Work};
 
-pub fn commit_and_write<S: Store>(store: &mut S, work: Work) -> Result<(), StoreFault> {
-    match work.commit(store) {
+pub fn commit_and_write<B: Bank>(bank: &mut B, work: Work) -> Result<(), BankFault> {
+    match work.commit(bank) {
         Ok(_) => {
             $1
-            let _ = work.write(store, 0, 1);
-            work.abort(store)
+            let _ = work.write(bank, 0, 1);
+            work.abort(bank)
         }
         Err(Unfinished::Ended(fault)) => Err(fault),
         Err(Unfinished::Back(back, fault)) => {
-            let _ = back.abort(store);
+            let _ = back.abort(bank);
             Err(fault)
         }
     }
@@ -86,6 +86,6 @@ client 'let held = Held::begin(board, 0)?;'
 proved shop_day 'a write behind another begin of a transaction is proved'
 work ''
 refused spent_work work 'a write to committed work is refused (E0382)'
-work 'let work = Work::begin(store, 0)?;'
+work 'let work = Work::begin(bank, 0, 0)?;'
 proved spent_work 'a write behind another begin of work is proved'
 exit "$bad"

@@ -54,7 +54,7 @@ six() {
 
 seven() {
     list 'closures as parameters' 'impl Fn|F: Fn|dyn '
-    list 'switches on which step to run' 'match (order|self\.side|event|step)'
+    list 'switches on which step to run' 'match (order|self\.side|self\.in_right|event|step)'
 }
 
 eight() {
