@@ -66,7 +66,10 @@ fn list(rt: &HostRuntime, heap: Global, bytes: &[u8]) -> anyhow::Result<()> {
 fn main(rt: HostRuntime) -> anyhow::Result<()> {
     let heap = rt.alloc();
     let mut buffer = [0u8; LONGEST];
-    let mut board = Middleware::new(heap, empty_bank(heap)?).map_err(|_| anyhow!("no memory"))?;
+    // no `map_err`: with the moves of a whole bank that it adds, LLVM takes many minutes
+    let Ok(mut board) = Middleware::new(heap, empty_bank(heap)?) else {
+        return Err(anyhow!("no memory"));
+    };
     show(&rt, &board, &mut buffer)?;
     board
         .open()

@@ -11,9 +11,9 @@ use Rattle.std.proofs.Math.Bool.{or_comm}
 use Rattle.std.proofs.lemmas.List.Sums.{sum_by_more}
 use Rattle.std.proofs.lemmas.Bool.{cases_eq, cases_lt, lt-ltb, ne_eqb, both_ways}
 use Rattle.std.proofs.lemmas.Bool.Decides.{nat_tests}
-use Rattle.marks.specs.Marked.{bit, marked_in, with_mark, either, both, count_below, any_below, lowest_from}
+use Rattle.marks.specs.Marked.{bit, marked_in, with_mark, either, both, count_below, any_below, lowest_from, Lowest}
 use Rattle.marks.proofs.Bits.{bit-none, bit_shifted, bit_past, bit-or, trailing_lowest}
-use Rattle.marks.proofs.Scans.{count_splits, count_same, any_splits, any_same, lowest_passes, lowest_stops}
+use Rattle.marks.proofs.Scans.{count_splits, count_same, any_splits, any_same, lowest_passes, lowest_stops, walk_finds_the_lowest}
 
 module _ (ws : List ℕ) where
   -- the mark of an object in word q, at bit r
@@ -96,6 +96,9 @@ module _ (ws : List ℕ) where
       ap (lowest_from f j) whole
       ∙ lowest_passes f j t n (λ i p l. at_bit (j / 64) (s + (i - j)) i (omega arith) (omega arith) ∙ sym (bit_shifted w s (i - j)) ∙ low.below (i - j) (omega arith))
       ∙ lowest_stops f (j + t) n (omega arith) (at_bit (j / 64) (s + t) (j + t) (omega arith) (omega arith) ∙ here)
+
+  pub walk_over_words_finds_the_lowest : (j : ℕ) → Lowest (marked_in ws) j (lowest_from (marked_in ws) j (64 * length ws - j))
+  walk_over_words_finds_the_lowest j = walk_finds_the_lowest (marked_in ws) j (64 * length ws - j) (λ i p. nothing_past_the_words i (omega arith))
 
 -- ---- two sets
 

@@ -1,5 +1,5 @@
 -- A whole run keeps the promise: made, opened, and call after call to the end.
-use Rattle.std.proofs.Common.{◌≡◌, true, false, cond, List, length, refl, ap, subst}
+use Rattle.std.proofs.Common.{◌≡◌, true, false, cond, List, [], length, sym, refl, ap, ◌∙◌, subst}
 use Rattle.calls.specs.declared.call.Call.{Call}
 use Rattle.stores.specs.Model.{StoreModel}
 use Rattle.machine.specs.declared.reason.Reason.{Reason}
@@ -12,7 +12,7 @@ use Rattle.law.specs.Promise.{Promised}
 use Rattle.refinement.specs.Answers.{refusal}
 use Rattle.refinement.specs.Stores.{law_bank}
 use Rattle.refinement.specs.Sound.{LawfulStores, Follows}
-use Rattle.refinement.proofs.Queues.{ran_none, promised_served}
+use Rattle.refinement.proofs.Queues.{ran_none, promised_served, promised_refused}
 use Rattle.middleware.specs.Serving.{Made, Opens, RunsOn}
 
 -- a refusal is not accepted
@@ -29,3 +29,8 @@ module _ (ms : List StoreModel) (ok : LawfulStores ms) (queue : List Call) (made
   served h last e r =
       let yes : accepted a ≡ true = ap accepted e in
       promised_served ms ok queue a h last opened_as.answer yes (r (start_of (law_bank ms)) (length (law_bank ms)) (ran_none ms a first opened_as yes))
+
+  pub turned_down : (e : Reason) → a ≡ refusal e → Promised (law_bank ms) queue a [] (law_bank first.stores) × (first.stores ≡ ms)
+  turned_down e is =
+      let same = o.bank ∙ new.stores in
+      (subst (λ (k : List StoreModel). Promised (law_bank ms) queue a [] (law_bank k)) (sym same) (promised_refused ms queue a opened_as.answer (ap accepted is ∙ refusal_refuses e)), same)

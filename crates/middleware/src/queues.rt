@@ -15,7 +15,11 @@ pub fn run_queue<B: Bank>(heap: Global, bank: B, queue: &[Call]) -> Result<Run<B
     let Ok(mut answers) = Vec::with_capacity(heap, queue.len()) else {
         return Err(Unrun::NoMemory(bank));
     };
-    let mut board = Middleware::new(heap, bank).map_err(Unrun::NoMemory)?;
+    // a `match`, and no `map_err`: with the moves of a whole bank that it adds, LLVM did not end within ten minutes
+    let mut board = match Middleware::new(heap, bank) {
+        Ok(board) => board,
+        Err(bank) => return Err(Unrun::NoMemory(bank)),
+    };
     if let Err(fault) = board.open() {
         return Err(Unrun::Refused(fault, board.into_bank()));
     }

@@ -69,7 +69,11 @@ pub fn run_script<B: Bank>(
     if let Err(fault) = check(script, buffer.len()) {
         return Err(Unplayed::Unfit(fault, bank));
     }
-    let mut board = Middleware::new(heap, bank).map_err(Unplayed::NoMemory)?;
+    // a `match`, and no `map_err`: with the moves of a whole bank that it adds, LLVM did not end within ten minutes
+    let mut board = match Middleware::new(heap, bank) {
+        Ok(board) => board,
+        Err(bank) => return Err(Unplayed::NoMemory(bank)),
+    };
     if let Err(fault) = board.open() {
         return Err(Unplayed::NotOpened(fault, board.into_bank()));
     }

@@ -128,7 +128,10 @@ fn day<B: Bank>(rt: &HostRuntime, board: &mut Middleware<B>) -> anyhow::Result<(
 
 fn main(rt: HostRuntime) -> anyhow::Result<()> {
     let heap = rt.alloc();
-    let mut board = Middleware::new(heap, empty_bank(heap)?).map_err(|_| anyhow!("no memory"))?;
+    // no `map_err`: with the moves of a whole bank that it adds, LLVM takes many minutes
+    let Ok(mut board) = Middleware::new(heap, empty_bank(heap)?) else {
+        return Err(anyhow!("no memory"));
+    };
     board.open().map_err(Trouble::from)?;
     day(&rt, &mut board)
 }
