@@ -7,13 +7,21 @@ ghost use Rattle.ledger.specs.Sets.{set_of, clashes, holds_back, is_unapplied};
 use crate::numbered::Numbered;
 use tickets::WriteSet;
 
+// What stands behind the first s: cut off in one step, where `skip` would go through them one by one.
+#[tactic(auto, using(std::proofs::lemmas::List::drop_min))]
+fn behind(sets: &[Numbered], s: usize) -> &[Numbered]
+    ensures { result.now ≡ drop s sets.now }
+{
+    &sets[s.min(sets.len())..]
+}
+
 // Behind the first s, one that clashes with a write set.
 pub(crate) fn first_clash(sets: &[Numbered], s: u16, set: &WriteSet) -> Option<usize>
     ensures place { result ≡ position (λ (x : Held). clashes (pairs set.now) (set_of x)) (drop s sets.now) }
     ensures within { IfSome result (λ i. s + i < length sets.now) }
 {
-    sets.iter()
-        .skip(usize::from(s))
+    behind(sets, usize::from(s))
+        .iter()
         .position(|x| x.clashes(set))
 }
 
