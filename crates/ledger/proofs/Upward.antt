@@ -4,10 +4,10 @@ use mathlib.Core.Bool.{beq}
 use Rattle.std.specs.List.{position, position_or_len}
 use Rattle.std.specs.Option.{option_map}
 use Rattle.std.proofs.lemmas.Bool.{cases_eq, cases_lt, lt-ltb, le-ltb, le-leb, lt-leb, eq-eqb, ne_eqb, and_from, and_left, and_right, cond-true, cond-false}
-use Rattle.std.proofs.lemmas.List.{drop-map, take-map, get_or-drop, get_or-take, get_or_past, length-map, length-drop, length-take}
+use Rattle.std.proofs.lemmas.List.{at_drop_more, at_drop_all, drop-map, take-map, get_or-drop, get_or-take, get_or_past, length-map, length-drop, length-take}
 use Rattle.std.proofs.lemmas.List.Recursion.{is_position_or_len}
 use Rattle.std.proofs.lemmas.List.Sums.{fails_before_first, passes_at_first, prefix_len-le-length}
-use Rattle.ledger.specs.Words.{up_to, count, exactly, whole, lowest, or_else, some_number}
+use Rattle.ledger.specs.Words.{up_to, count, exactly, whole, lowest, or_else, some_number, tally}
 
 -- ---- how many
 
@@ -190,6 +190,20 @@ lowest_within {A} {X} v p xs d last past =
     at us k h =
         let e : 0 + k + 1 - 1 ≡ k = omega arith in
         ap (λ n. p (get_or us n d)) e ∙ ap p (sym (get_or-take last us k d h))
+
+-- ---- how many of a list, by those that are left
+
+pub tally_yes : {X : Type 0} (f : X → Bool) (xs : List X) (i : ℕ) (d : X) → i < length xs → f (get_or xs i d) ≡ true → tally f (drop i xs) ≡ suc (tally f (drop (i + 1) xs))
+unfolding tally
+tally_yes f xs i d h e = at_drop_more (tally f) xs i d h ∙ cond-true (f (get_or xs i d)) _ _ e
+
+pub tally_not : {X : Type 0} (f : X → Bool) (xs : List X) (i : ℕ) (d : X) → i < length xs → f (get_or xs i d) ≡ false → tally f (drop i xs) ≡ tally f (drop (i + 1) xs)
+unfolding tally
+tally_not f xs i d h e = at_drop_more (tally f) xs i d h ∙ cond-false (f (get_or xs i d)) _ _ e
+
+pub tally_all : {X : Type 0} (f : X → Bool) (xs : List X) (i : ℕ) → length xs ≤ i → tally f (drop i xs) ≡ 0
+unfolding tally
+tally_all f xs i h = at_drop_all (tally f) xs i h
 
 -- ---- numbers that were given
 

@@ -15,7 +15,7 @@ const MOST_VERSIONS: usize = 2048;
 #[derive(Drop)]
 pub struct Chains {
     start: [u32; 128],
-    newest: [Option<usize>; 128],
+    newest: [Option<u16>; 128],
     pool: Vec<Version>,
     ghost whole: { length start ≡ 128 },
     ghost heads: { length newest ≡ 128 },

@@ -10,6 +10,6 @@ mod steps;
 #[derive(Clone, Copy)]
 pub struct Walk<'a> {
     pub pool: &'a [Version],
-    pub next: Option<usize>,
+    pub next: Option<u16>,
     ghost falls: { falling (reverse pool.now) ≡ true },
 }

@@ -70,7 +70,7 @@ impl Chains {
         ensures size { size_of self.new ≡ size_of self.old + 1 }
     {
         let older = self.newest[object];
-        self.newest[object] = Some(self.pool.len());
+        self.newest[object] = Some(self.pool.len() as u16);
         self.pool.push_reserved(Version {
             commit,
             value,

@@ -15,7 +15,7 @@ impl<'a> Iterator for Walk<'a> {
     ghost remaining = { λ s. at_most (height s.next) };
 
     fn next(&mut self) -> Option<&'a Version> {
-        let version = self.pool.get(self.next?)?;
+        let version = self.pool.get(usize::from(self.next?))?;
         self.next = version.older;
         Some(version)
     }
