@@ -1,4 +1,7 @@
 // Why a script is not run, and why a line of it is refused.
+ghost use Rattle.std.specs.Prelude.{◌≡◌};
+ghost use Rattle.script.specs.declared.fault.ScriptFault.TheVariants.{Board};
+
 use middleware::BoardFault;
 
 // No line is run.
@@ -17,4 +20,15 @@ pub enum ScriptFault {
     NotUnderstood { line: u32 },
     // the board refuses its call
     Board { line: u32, fault: BoardFault },
+}
+
+impl From<(u32, BoardFault)> for ScriptFault {
+    ghost from_gives = { λ e r. r ≡ Board e.0 e.1 };
+
+    fn from(e: (u32, BoardFault)) -> ScriptFault {
+        ScriptFault::Board {
+            line: e.0,
+            fault: e.1,
+        }
+    }
 }

@@ -35,5 +35,5 @@ pub fn answer_line<B: Bank>(
     ensures names { Refuses line bytes.now result }
 {
     let call = read_line(bytes).ok_or(ScriptFault::NotUnderstood { line })?;
-    spoken(board.call(call)).map_err(|fault| ScriptFault::Board { line, fault })
+    spoken(board.call(call)).map_err(|fault| ScriptFault::from((line, fault)))
 }
