@@ -1,5 +1,5 @@
 #!/bin/sh
-# A held transaction and work at a bank that are spent: the borrow check refuses a write with either,
+# A held transaction, and work in a store and at a bank, that are spent: the borrow check refuses a write with each,
 # and beginning again mends it. Run at the top of the repository; all is done in a scratch copy.
 set -eu
 
@@ -54,25 +54,27 @@ client() { # FIRST
         { echo "spent: BAD: the line behind the commit is not in shop_day once" >&2; exit 1; }
 }
 
-# A library of its own that writes with work behind its commit, at any bank (a store is a bank of one), with FIRST in front of that write.
+# A library of its own that writes with work behind its commit, with FIRST in front of that write: KIND is Store or Bank, and
+# names the interface, the fault and the crate (in small letters, and with an s behind it).
 mkdir -p "$scratch/crates/spent_work/src"
 echo 'spent_work: banks stores tickets' >>"$scratch/crates.txt"
-work() { # FIRST
+work() { # KIND FIRST
+    library=$(echo "$1s" | tr '[:upper:]' '[:lower:]')
     cat >"$scratch/crates/spent_work/src/lib.rt" <<RATTLE
 #![tactic(auto)]
 
-use banks::{Bank, BankFault, Unfinished, Work};
+use $library::{$1, ${1}Fault, Unfinished, Work};
 
-pub fn commit_and_write<B: Bank>(bank: &mut B, work: Work) -> Result<(), BankFault> {
-    match work.commit(bank) {
+pub fn commit_and_write<S: $1>(here: &mut S, work: Work) -> Result<(), ${1}Fault> {
+    match work.commit(here) {
         Ok(_) => {
-            $1
-            let _ = work.write(bank, 0, 1);
-            work.abort(bank)
+            $2
+            let _ = work.write(here, 0, 1);
+            work.abort(here)
         }
         Err(Unfinished::Ended(fault)) => Err(fault),
         Err(Unfinished::Back(back, fault)) => {
-            let _ = back.abort(bank);
+            let _ = back.abort(here);
             Err(fault)
         }
     }
@@ -84,8 +86,11 @@ client ''
 refused shop_day held 'a write with a committed transaction is refused (E0382)'
 client 'let held = Held::begin(board, 0)?;'
 proved shop_day 'a write behind another begin of a transaction is proved'
-work ''
-refused spent_work work 'a write to committed work is refused (E0382)'
-work 'let work = Work::begin(bank, 0, 0)?;'
-proved spent_work 'a write behind another begin of work is proved'
+for kind in Store Bank; do
+    case $kind in Store) begin='begin(here, 0)' ;; *) begin='begin(here, 0, 0)' ;; esac
+    work "$kind" ''
+    refused spent_work work "$kind: a write to committed work is refused (E0382)"
+    work "$kind" "let work = Work::$begin?;"
+    proved spent_work "$kind: a write behind another begin of work is proved"
+done
 exit "$bad"
