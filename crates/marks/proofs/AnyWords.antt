@@ -88,7 +88,7 @@ module _ (ws : List ℕ) where
       let w = get_or ws (j / 64) 0 in
       let s = j % 64 in
       let t = count_trailing_zeros 64 (w / 2 ^ s) in
-      let low = trailing_lowest (w / 2 ^ s) some (omega (arith, shr_le w s)) in
+      let low = trailing_lowest 64 (w / 2 ^ s) some (omega (arith, shr_le w s)) in
       let here : bit w (s + t) ≡ true = sym (bit_shifted w s t) ∙ low.is_set in
       let within : s + t < 64 = ⊎_elim (λ l. l) (λ l. absurd (both_ways (bit w (s + t)) (bit_past w 64 (s + t) fits l) here)) (cases_lt (s + t) 64) in
       let n = 64 * length ws - (j + t) in

@@ -1,13 +1,11 @@
 -- What is known of any set of marks. Assumes nothing.
-use Rattle.std.proofs.Common.{◌≡◌, ℕ, zero, suc, ◌+◌, ◌-◌, ◌*◌, ◌/◌, ◌%◌, ◌^◌, ◌<◌, ◌≤◌, Bool, true, false, cond, ◌&&◌, eqb, ltb, [], ◌∷◌, length, get_or, set, IfSome, Some, None, Option, sym, refl, ap, ◌∙◌, subst, ⊎_elim, arith}
-use Rattle.std.specs.List.{filter, range_with_len, sum_by}
+use Rattle.std.proofs.Common.{◌≡◌, ℕ, zero, suc, ◌+◌, ◌-◌, ◌<◌, ◌≤◌, Bool, true, false, cond, ◌&&◌, ltb, [], ◌∷◌, length, IfSome, Some, None, Option, sym, refl, ap, ◌∙◌, subst, ⊎_elim, arith}
+use Rattle.std.specs.List.{filter, range_with_len}
 use Rattle.std.proofs.lemmas.Bool.{cases_lt, lt-ltb, le-ltb, and_left, both_ways}
-use lib.Count.{count_trailing_zeros}
 use Rattle.marks.specs.declared.marks.Marks.{Marks}
-use Rattle.marks.specs.Marked.{bit, marked, marked_in, with_mark, count_below, lowest_from, Lowest}
+use Rattle.marks.specs.Marked.{marked, marked_in, lowest_from, Lowest}
 use Rattle.marks.specs.Objects.{marked_from}
-use Rattle.marks.proofs.AnyWords.{nothing_past_the_words, changes_that_mark_alone, count_by_words, walk_goes_to_the_next_word, walk_stops_in_this_word}
-use Rattle.marks.proofs.Scans.{count_within, walk_finds_the_lowest}
+use Rattle.marks.proofs.AnyWords.{nothing_past_the_words}
 
 -- only the 128 objects are ever marked
 pub nothing_past : (m : Marks) (j : ℕ) → 128 ≤ j → marked m j ≡ false
@@ -18,45 +16,12 @@ pub found_within : (m : Marks) (j : ℕ) (o : Option ℕ) → Lowest (marked m) 
 found_within m j (Some k) (l, e, low) = ⊎_elim (λ h. h) (λ h. absurd (both_ways (marked m k) (nothing_past m k h) e)) (cases_lt k 128)
 found_within m j None low = tt
 
-pub walk_over_marks_finds_the_lowest : (m : Marks) (j : ℕ) → Lowest (marked m) j (lowest_from (marked m) j (128 - j))
-walk_over_marks_finds_the_lowest m j = walk_finds_the_lowest (marked m) j (128 - j) (λ i p. nothing_past m i (omega arith))
-
-module _ (m : Marks) (two : length m.words ≡ 2) where
-  objects : 64 * length m.words ≡ 128
-  objects = omega arith
-
-  -- which two words hold exactly
-  pub in_its_words : marked m ≡ marked_in m.words
-  unfolding marked
-  in_its_words = λ i j.
-      ⊎_elim (λ l. ap (λ b. b && marked_in m.words j) (lt-ltb j 128 l))
-      (λ l. nothing_past m j l ∙ sym (nothing_past_the_words m.words j (omega arith))) (cases_lt j 128) i
-
-  pub puts_that_mark_alone : (j w : ℕ) (b : Bool) → j < 128
-      → ((i : ℕ) → i < 64 → bit w i ≡ cond (eqb i (j % 64)) b (bit (get_or m.words (j / 64) 0) i))
-      → marked_in (set m.words (j / 64) w) ≡ with_mark 128 j b (marked m)
-  puts_that_mark_alone j w b h bits = changes_that_mark_alone m.words j w b (omega arith) bits ∙ (λ i. with_mark (objects i) j b (sym in_its_words i))
-
-  -- a walk at object j, which stands in word q
-  module _ (j q : ℕ) (e : j / 64 ≡ q) (h : q < 2) where
-    pub walk_goes_on : get_or m.words q 0 / 2 ^ (j % 64) ≡ 0 → lowest_from (marked m) j (128 - j) ≡ lowest_from (marked m) ((q + 1) * 64) (128 - (q + 1) * 64)
-    walk_goes_on none =
-        (λ i. lowest_from (in_its_words i) j (sym objects i - j))
-        ∙ walk_goes_to_the_next_word m.words j (omega arith) (ap (λ q. get_or m.words q 0 / 2 ^ (j % 64)) e ∙ none)
-        ∙ (λ i. lowest_from (sym in_its_words i) ((e i + 1) * 64) (objects i - (e i + 1) * 64))
-
-    pub walk_stops : get_or m.words q 0 < 2 ^ 64 → 0 < get_or m.words q 0 / 2 ^ (j % 64) → lowest_from (marked m) j (128 - j) ≡ Some (j + count_trailing_zeros 64 (get_or m.words q 0 / 2 ^ (j % 64)))
-    walk_stops fits some =
-        (λ i. lowest_from (in_its_words i) j (sym objects i - j))
-        ∙ walk_stops_in_this_word m.words j (omega arith) (subst (λ q. get_or m.words q 0 < 2 ^ 64) (sym e) fits) (subst (λ q. 0 < get_or m.words q 0 / 2 ^ (j % 64)) (sym e) some)
-        ∙ ap (λ q. Some (j + count_trailing_zeros 64 (get_or m.words q 0 / 2 ^ (j % 64)))) e
-
-  -- as many objects are marked as the words mark
-  pub count_of_the_words : sum_by (λ w. count_below (bit w) 64) m.words ≡ count_below (marked m) 128
-  count_of_the_words = count_by_words m.words ∙ (λ i. count_below (sym in_its_words i) (objects i))
-
-  pub marks_of_the_words : sum_by (λ w. count_below (bit w) 64) m.words ≤ 128
-  marks_of_the_words = omega (arith, count_of_the_words, count_within (marked m) 128)
+-- which two words hold exactly
+pub in_its_words : (m : Marks) → length m.words ≡ 2 → marked m ≡ marked_in m.words
+unfolding marked
+in_its_words m two = λ i j.
+    ⊎_elim (λ l. ap (λ b. b && marked_in m.words j) (lt-ltb j 128 l))
+    (λ l. nothing_past m j l ∙ sym (nothing_past_the_words m.words j (omega arith))) (cases_lt j 128) i
 
 -- ---- the objects in turn
 

@@ -3,6 +3,7 @@
 
 pub mod marks;
 pub mod objects;
+mod words;
 
 pub use marks::Marks;
 pub use objects::Objects;
