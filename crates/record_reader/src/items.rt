@@ -19,7 +19,9 @@ fn write_set(pairs: &[[u8; PAIR_BYTES]]) -> Option<WriteSet>
     let (first, others) = pairs.split_first()?;
     let mut set = WriteSet::one(pair_in(first)?)?;
     for pair in others {
-        set = set.with(pair_in(pair)?)?;
+        if !set.push(pair_in(pair)?) {
+            return None;
+        }
     }
     Some(set)
 }

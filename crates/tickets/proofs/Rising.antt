@@ -49,19 +49,28 @@ pub push_built : (ps : Pairs) (j v : ℕ) → rising 0 ps ≡ true → length ps
 push_built ps j v r few above within = cond-true _ _ _ (push_stands ps j v r few above within)
 
 -- no write set: not rising
-unbuilt : (ps : Pairs) (j v : ℕ) → rising 0 (ps ++ (j, v) ∷ []) ≡ false → built (ps ++ (j, v) ∷ []) ≡ None
-unbuilt ps j v f = cond-false _ _ _ (and_right (ltb 0 (length (ps ++ (j, v) ∷ []))) _ (and_right (leb (length (ps ++ (j, v) ∷ [])) 8) _ f))
+not_rising : (ps : Pairs) (j v : ℕ) → rising 0 (ps ++ (j, v) ∷ []) ≡ false → is_write_set (ps ++ (j, v) ∷ []) ≡ false
+not_rising ps j v f = and_right (ltb 0 (length (ps ++ (j, v) ∷ []))) _ (and_right (leb (length (ps ++ (j, v) ∷ [])) 8) _ f)
+
+pub ninth_fails : (ps : Pairs) (j v : ℕ) → 8 ≤ length ps → is_write_set (ps ++ (j, v) ∷ []) ≡ false
+ninth_fails ps j v many =
+    let n = length_push ps (j, v) in
+    and_right (ltb 0 (length (ps ++ (j, v) ∷ []))) _ (and_left (leb (length (ps ++ (j, v) ∷ [])) 8) (rising 0 (ps ++ (j, v) ∷ [])) (lt-leb (length (ps ++ (j, v) ∷ [])) 8 (omega arith)))
+
+pub outside_fails : (ps : Pairs) (j v : ℕ) → rising 0 ps ≡ true → 128 ≤ j → is_write_set (ps ++ (j, v) ∷ []) ≡ false
+outside_fails ps j v r out = not_rising ps j v (rising_push 0 ps j v r ∙ and_right (leb (after 0 ps) j) _ (le-ltb j 128 out))
+
+pub not_above_fails : (ps : Pairs) (j v : ℕ) → rising 0 ps ≡ true → j < after 0 ps → is_write_set (ps ++ (j, v) ∷ []) ≡ false
+not_above_fails ps j v r low = not_rising ps j v (rising_push 0 ps j v r ∙ and_left (leb (after 0 ps) j) (ltb j 128) (lt-leb _ _ low))
 
 pub push_ninth : (ps : Pairs) (j v : ℕ) → 8 ≤ length ps → built (ps ++ (j, v) ∷ []) ≡ None
-push_ninth ps j v many =
-    let n = length_push ps (j, v) in
-    cond-false _ _ _ (and_right (ltb 0 (length (ps ++ (j, v) ∷ []))) _ (and_left (leb (length (ps ++ (j, v) ∷ [])) 8) (rising 0 (ps ++ (j, v) ∷ [])) (lt-leb (length (ps ++ (j, v) ∷ [])) 8 (omega arith))))
+push_ninth ps j v many = cond-false _ _ _ (ninth_fails ps j v many)
 
 pub push_outside : (ps : Pairs) (j v : ℕ) → rising 0 ps ≡ true → 128 ≤ j → built (ps ++ (j, v) ∷ []) ≡ None
-push_outside ps j v r out = unbuilt ps j v (rising_push 0 ps j v r ∙ and_right (leb (after 0 ps) j) _ (le-ltb j 128 out))
+push_outside ps j v r out = cond-false _ _ _ (outside_fails ps j v r out)
 
 pub push_not_above : (ps : Pairs) (j v : ℕ) → rising 0 ps ≡ true → j < after 0 ps → built (ps ++ (j, v) ∷ []) ≡ None
-push_not_above ps j v r low = unbuilt ps j v (rising_push 0 ps j v r ∙ and_left (leb (after 0 ps) j) (ltb j 128) (lt-leb _ _ low))
+push_not_above ps j v r low = cond-false _ _ _ (not_above_fails ps j v r low)
 
 -- ---- what is left of rising pairs rises
 

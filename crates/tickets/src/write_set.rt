@@ -7,6 +7,7 @@ ghost use Rattle.tickets.specs.Pairs.{pairs_of};
 use crate::pair::Pair;
 
 mod methods;
+mod push;
 
 pub const MOST_PAIRS: usize = 8;
 

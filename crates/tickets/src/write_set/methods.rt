@@ -1,4 +1,4 @@
-ghost use Rattle.std.specs.Prelude.{◌≡◌, ℕ, ◌+◌, ◌<◌, ◌≤◌, List, [], ◌∷◌, ◌++◌, map, length, All, if◌then◌else◌, Some, None, nat_lt, slice_index_or};
+ghost use Rattle.std.specs.Prelude.{◌≡◌, ℕ, ◌+◌, ◌<◌, ◌≤◌, List, [], ◌∷◌, map, length, All, if◌then◌else◌, Some, None, nat_lt, slice_index_or};
 ghost use Rattle.std.specs.Option.{option_map};
 ghost use Rattle.tickets.specs.WriteSets.{lookup, shares, play};
 ghost use Rattle.tickets.specs.Meaning.{pair_of, pairs, values, built, set_pairs};
@@ -19,22 +19,6 @@ impl WriteSet {
             pairs: [pair; MOST_PAIRS],
             len: 1,
         })
-    }
-
-    /// The write set with one more pair behind the others, where that is a write set.
-    pub fn with(self, pair: Pair) -> Option<WriteSet>
-        ensures answer { set_pairs result ≡ built (pairs self ++ pair_of pair ∷ []) }
-    {
-        let n = self.len;
-        if n >= MOST_PAIRS || pair.object >= OBJECTS {
-            return None;
-        }
-        if self.pairs[n - 1].object >= pair.object {
-            return None;
-        }
-        let mut pairs = self.pairs;
-        pairs[n] = pair;
-        Some(WriteSet { pairs, len: n + 1 })
     }
 
     /// Its pairs, in order.
