@@ -1,3 +1,4 @@
 pub mod Model
 pub mod Faults
+pub mod Works
 pub mod Seated

@@ -4,7 +4,9 @@
 pub mod api;
 pub mod fault;
 pub mod seats;
+pub mod work;
 
 pub use api::Store;
 pub use fault::StoreFault;
 pub use seats::Seats;
+pub use work::{Unfinished, Work};
