@@ -1,11 +1,11 @@
 // A copy store's making, and the steps that its calls are made of.
-ghost use Rattle.std.specs.Prelude.{◌≡◌, ◌<◌, Ok, Err, ◌==◌};
+ghost use Rattle.std.specs.Prelude.{◌≡◌, ◌<◌, length, Ok, Err, ◌==◌};
 ghost use Rattle.stores.specs.Model.{place_at, done, leaves, spread};
 ghost use Rattle.copy_store.specs.Copied.{meaning_of, made_from};
 ghost use Rattle.copy_store.specs.Places.{place_of};
 
 use crate::place::Place;
-use crate::store::{CopyStore, MOST};
+use crate::store::{CopyStore, MOST, PLACES};
 use stores::{Seats, StoreFault};
 use tickets::OBJECTS;
 
@@ -13,6 +13,7 @@ impl CopyStore {
     /// A store of these values, with nothing committed and every place closed.
     pub fn new(values: [u32; OBJECTS]) -> CopyStore
         ensures answer { meaning_of result ≡ made_from values }
+        ensures places { length (meaning_of result).places ≡ PLACES }
     {
         CopyStore {
             board: values,

@@ -1,5 +1,5 @@
 // What a version store does: each call of a store, and the few steps that they share.
-ghost use Rattle.std.specs.Prelude.{◌≡◌, ◌≤◌, replicate, IfOk, if◌then◌else◌, None, Ok, Err, nat_eq};
+ghost use Rattle.std.specs.Prelude.{◌≡◌, ◌≤◌, length, replicate, IfOk, if◌then◌else◌, None, Ok, Err, nat_eq};
 ghost use Rattle.stores.specs.Model.{place_at, spread};
 ghost use Rattle.versions.specs.Writes.{own_of};
 ghost use Rattle.versions.specs.Meaning.{history_of, land_answer};
@@ -7,7 +7,7 @@ ghost use Rattle.version_store.specs.Meaning.{meaning_of, place_of};
 ghost use Rattle.version_store.specs.Lawful.{store_lawful};
 
 use crate::place::Place;
-use crate::store::VersionStore;
+use crate::store::{PLACES, VersionStore};
 use std::alloc::{AllocError, Global};
 use stores::{Seats, Store, StoreFault};
 use tickets::Pair;
@@ -17,6 +17,7 @@ impl VersionStore {
     /// A store of these values, with no commit and no open place; all memory is reserved here.
     pub fn new(heap: Global, values: [u32; 128]) -> Result<VersionStore, AllocError>
         ensures answer { IfOk result (λ s. meaning_of s ≡ record { board = values; commits = 0; most = 256; places = replicate 16 None }) }
+        ensures places { IfOk result (λ s. length (meaning_of s).places ≡ PLACES) }
     {
         let history = History::new(heap, values)?;
         Ok(VersionStore {
