@@ -5,7 +5,7 @@ use Rattle.std.proofs.lemmas.Bool.{lt-ltb, cases_lt, cases_eq}
 use Rattle.stores.specs.declared.fault.StoreFault.{StoreFault}
 use Rattle.stores.specs.declared.fault.StoreFault.TheVariants.{NoPlace}
 use Rattle.stores.specs.Model.{held, seat_in}
-use Rattle.stores.specs.Seated.{held_in, opened, Changed, Updates, SeatChanged, ChangesEach}
+use Rattle.stores.specs.Seated.{held_in, opened, OpenedWith, Changed, Updates, SeatChanged, ChangesEach}
 
 pub in_seat : {P A : Type 0} (seats : List (Option P)) (p : ℕ) (o : Option P) (f : Option P → Result A StoreFault) → p < length seats → get_or seats p None ≡ o → seat_in seats p f ≡ f o
 in_seat seats p o f h e = let l : ltb p (length seats) ≡ true = lt-ltb p _ h in rw (l, e)
@@ -83,3 +83,7 @@ each_set Q seats p o each q k = ⊎_elim here (λ ne. subst Q (sym (get_or-set_o
 pub each_opened : {P : Type 0} (Q : Option P → Type 0) (r : Result (Unit {0}) StoreFault) (seats : List (Option P)) (p : ℕ) (x : P) → ((k : ℕ) → Q (get_or seats k None)) → Q (Some x) → (k : ℕ) → Q (get_or (opened r seats p x) k None)
 each_opened Q (Ok u) seats p x each q = each_set Q seats p (Some x) each q
 each_opened Q (Err fault) seats p x each q = each
+
+pub each_opened_with : {P : Type 0} (Q : Option P → Type 0) (Made : P → Type 0) (r : Result (Unit {0}) StoreFault) (seats new : List (Option P)) (p : ℕ) → ((k : ℕ) → Q (get_or seats k None)) → ((x : P) → Made x → Q (Some x)) → OpenedWith Made r seats p new → (k : ℕ) → Q (get_or new k None)
+each_opened_with Q Made (Ok u) seats new p each q o = subst (λ xs. (k : ℕ) → Q (get_or xs k None)) (sym o.2) (each_set Q seats p (Some o.0) each (q o.0 o.1))
+each_opened_with Q Made (Err fault) seats new p each q o = subst (λ xs. (k : ℕ) → Q (get_or xs k None)) (sym o) each

@@ -6,7 +6,7 @@ use Rattle.std.proofs.lemmas.Bool.{cases_lt, le-ltb}
 use Rattle.stores.specs.declared.fault.StoreFault.{StoreFault}
 use Rattle.stores.specs.declared.fault.StoreFault.TheVariants.{NoPlace}
 use Rattle.stores.specs.Model.{StoreModel, Place, held, vacant, seat_in, bind, done, leaves, kept, fresh, write_at, with_place, place_at, begin_answer, begin_after, write_answer, write_after, abort_after, overtaken_by}
-use Rattle.stores.specs.Seated.{held_in, vacant_in, opened, Changed, Updates, SeatChanged, ChangesEach}
+use Rattle.stores.specs.Seated.{held_in, vacant_in, opened, OpenedWith, Changed, Updates, SeatChanged, ChangesEach}
 use Rattle.stores.proofs.Seated.{in_seat, closed_again}
 use Rattle.stores.proofs.Steps.{seat_has, same_place, kept_leaves}
 
@@ -68,6 +68,15 @@ module _ {X : Type 0} (m : StoreModel) (f : X → Place) (xs : List (Option X)) 
 
   pub opened_seen : (x : X) → f x ≡ fresh m.board → with_places m (map (option_map f) (opened (vacant_in xs p) xs p x)) ≡ begin_after m p
   opened_seen x e = opened_by (vacant_in xs p) x e ∙ ap (λ r. leaves r (λ _. with_place m p (Some (fresh m.board))) m) (sym begin_seen)
+
+  -- seats where one is opened with what is made, which begins on the board
+  module _ (Made : X → Type 0) (begins : (x : X) → Made x → f x ≡ fresh m.board) (ys : List (Option X)) where
+    opened_with_by : (r : Result (Unit {0}) StoreFault) → OpenedWith Made r xs p ys → with_places m (map (option_map f) ys) ≡ leaves r (λ _. with_place m p (Some (fresh m.board))) m
+    opened_with_by (Ok u) o = ap (λ zs. with_places m (map (option_map f) zs)) o.2 ∙ set_seen (Some o.0) ∙ ap (λ y. with_place m p (Some y)) (begins o.0 o.1)
+    opened_with_by (Err fault) o = ap (λ zs. with_places m (map (option_map f) zs)) o ∙ same_seen
+
+    pub opened_with_seen : OpenedWith Made (vacant_in xs p) xs p ys → with_places m (map (option_map f) ys) ≡ begin_after m p
+    opened_with_seen o = opened_with_by (vacant_in xs p) o ∙ ap (λ r. leaves r (λ _. with_place m p (Some (fresh m.board))) m) (sym begin_seen)
 
   -- and where one is closed
   closed_by : (r : Result X StoreFault) → held_in xs p ≡ r → with_places m (map (option_map f) (set xs p None)) ≡ leaves (bind r (λ x. Ok (f x))) (λ _. with_place m p None) m

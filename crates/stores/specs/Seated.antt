@@ -27,6 +27,11 @@ abbrev pub opened : {P : Type 0} → Result (Unit {0}) StoreFault → List (Opti
 opened (Ok u) seats p here = slice_set seats p (Some here)
 opened (Err e) seats p here = seats
 
+-- the seats after an open with what is made, which `Made` tells of: where it is refused, as they were
+abbrev pub OpenedWith : {P : Type 0} → (P → Type 0) → Result (Unit {0}) StoreFault → List (Option P) → ℕ → List (Option P) → Type 0
+OpenedWith {P} Made (Ok u) old p new = (here : P) × Made here × (new ≡ slice_set old p (Some here))
+OpenedWith Made (Err e) old p new = new ≡ old
+
 -- a change of what stands at a place took `old` to `new` and answered `r`, where `here` stood there; a refusal is answered, and leaves all as it was
 abbrev pub Changed : {P R : Type 0} → (P → Result R StoreFault → P → Type 0) → Result P StoreFault → List (Option P) → ℕ → Result R StoreFault → List (Option P) → Type 0
 Changed {P} Changes (Ok here) old p r new = (left : P) × Changes here r left × (new ≡ slice_set old p (Some left))

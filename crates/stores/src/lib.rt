@@ -8,5 +8,5 @@ pub mod work;
 
 pub use api::Store;
 pub use fault::StoreFault;
-pub use seats::Seats;
+pub use seats::{SEATS, Seats};
 pub use work::{Unfinished, Work};

@@ -3,9 +3,12 @@ ghost use Rattle.std.specs.Prelude.{◌≡◌, length};
 
 use crate::fault::StoreFault;
 
+/// How many seats there are.
+pub const SEATS: usize = 16;
+
 #[derive(Drop)]
 pub struct Seats<P> {
-    seats: [Option<P>; 16],
+    seats: [Option<P>; SEATS],
     ghost sixteen: { length seats ≡ 16 },
 }
 
@@ -13,7 +16,7 @@ impl<P> Seats<P> {
     ghost use Rattle.std.specs.Prelude.{replicate, None, Ok, Err, slice_set};
     ghost use Rattle.std.specs.Fn.{FnOnceReturnsAtMut};
     ghost use Rattle.stores.specs.Model.{done};
-    ghost use Rattle.stores.specs.Seated.{seats_of, held_in, vacant_in, open_in, opened, Updates, Leaves, ChangesEach};
+    ghost use Rattle.stores.specs.Seated.{seats_of, held_in, vacant_in, open_in, opened, OpenedWith, Updates, Leaves, ChangesEach};
 
     /// Every place is closed.
     pub fn closed() -> Seats<P>
@@ -21,7 +24,9 @@ impl<P> Seats<P> {
         P: Copy,
         ensures answer { seats_of result ≡ replicate 16 None }
     {
-        Seats { seats: [None; 16] }
+        Seats {
+            seats: [None; SEATS],
+        }
     }
 
     /// What stands at a place that is open.
@@ -47,10 +52,21 @@ impl<P> Seats<P> {
         ensures answer { result ≡ vacant_in (seats_of self.old) place }
         ensures after { seats_of self.new ≡ opened (vacant_in (seats_of self.old) place) (seats_of self.old) place here }
     {
+        self.open_with(place, || here)
+    }
+
+    /// Opens a place with what `make` gives to stand there, written once; where the place is refused, `make` is not asked.
+    pub fn open_with<F: FnOnce() -> P>(&mut self, place: usize, make: F) -> Result<(), StoreFault>
+    where
+        P: Drop,
+        requires { F.pre make }
+        ensures answer { result ≡ vacant_in (seats_of self.old) place }
+        ensures after { OpenedWith (F.post make) (vacant_in (seats_of self.old) place) (seats_of self.old) place (seats_of self.new) }
+    {
         if self.is_open(place)? {
             return Err(StoreFault::PlaceOpen);
         }
-        self.seats[place] = Some(here);
+        self.seats[place] = Some(make());
         Ok(())
     }
 

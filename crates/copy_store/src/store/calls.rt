@@ -13,8 +13,7 @@ impl Store for CopyStore {
     ghost lawful = { store_lawful };
 
     fn begin(&mut self, place: usize) -> Result<(), StoreFault> {
-        let here = Place::on(&self.board);
-        self.places.open(place, here)
+        self.places.open_with(place, || Place::on(&self.board))
     }
 
     fn read(&self, place: usize, object: usize) -> Result<u32, StoreFault> {

@@ -50,8 +50,13 @@ impl Store for VersionStore {
 
     fn begin(&mut self, place: usize) -> Result<(), StoreFault> {
         let begun = self.history.commits();
-        let own = OwnWrites::none();
-        self.places.open(place, Place { begun, own })
+        self.places.open_with(
+            place,
+            || Place {
+                begun,
+                own: OwnWrites::none(),
+            },
+        )
     }
 
     fn read(&self, place: usize, object: usize) -> Result<u32, StoreFault> {
