@@ -6,3 +6,4 @@ pub mod Faults
 pub mod Meaning
 pub mod Buffers
 pub mod Calls
+pub mod Order

@@ -43,8 +43,10 @@ impl<'a> Pen<'a> {
         ensures same_buffer { SameBuffer self.old self.new }
         ensures bytes { Puts self.old (contents (first_body (length (R.NumberedSets.items run.now))) (R.NumberedSets.items run.now)) self.new }
     {
-        let mut offset = COUNT_BYTES + ENTRY_BYTES * run.count();
-        for set in in_order(run) {
+        let sets = in_order(run);
+        let count = sets.len();
+        let mut offset = COUNT_BYTES + ENTRY_BYTES * count;
+        for set in sets {
             let pairs = set.set.len();
             let [high, low] = (offset as u16).to_be_bytes();
             self.put(&[set.home, pairs as u8, high, low]);

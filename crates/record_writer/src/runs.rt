@@ -32,11 +32,13 @@ fn may_stand(set: &NumberedSet, n: usize) -> bool
 pub(crate) fn size<R: NumberedSets>(run: &R) -> Result<usize, RecordFault>
     ensures answer { listed result ≡ size_answer (R.NumberedSets.items run.now) }
 {
-    if run.count() > MOST_ITEMS {
+    let sets = in_order(run);
+    let count = sets.len();
+    if count > MOST_ITEMS {
         return Err(RecordFault::NoRun { item: 0 });
     }
     let mut needed = COUNT_BYTES;
-    for (set, n) in in_order(run).zip(1..) {
+    for (set, n) in sets.zip(1..) {
         if !may_stand(&set, n) {
             return Err(RecordFault::NoRun { item: n });
         }

@@ -1,6 +1,7 @@
 use Rattle.std.proofs.Common.{◌+◌, ◌++◌, length, string_bytes, ap, ◌∙◌, inl, arith}
 use Rattle.std.specs.Iterator.Adapters.{enumerate_count, enumerate_source}
-use Rattle.record_format.specs.Meaning.{item_of, left_of}
+use Rattle.record_format.specs.Meaning.{item_of}
+use Rattle.record_format.specs.Order.{left_of}
 use Rattle.record_format.specs.Reading.{items_in}
 use Rattle.record_reader.specs.Readers.{read_from}
 use Rattle.listing.specs.Listing.{item_text, items_text}

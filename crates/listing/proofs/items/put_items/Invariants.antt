@@ -1,6 +1,6 @@
 use Rattle.std.proofs.Common.{◌≡◌, ◌+◌, ◌++◌, string_bytes}
 use Rattle.std.specs.Iterator.Adapters.{enumerate_count, enumerate_source}
-use Rattle.record_format.specs.Meaning.{left_of}
+use Rattle.record_format.specs.Order.{left_of}
 use Rattle.record_format.specs.Reading.{items_in}
 use Rattle.record_reader.specs.Readers.{read_from}
 use Rattle.listing.specs.Listing.{items_text}

@@ -1,4 +1,4 @@
-use Rattle.record_format.specs.Meaning.{left_of}
+use Rattle.record_format.specs.Order.{left_of}
 use Rattle.record_format.proofs.Sets.{Sized}
 use Rattle.record_writer.proofs.runs.size.Given as goal
 

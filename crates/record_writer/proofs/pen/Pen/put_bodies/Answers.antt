@@ -1,6 +1,7 @@
 use Rattle.std.proofs.Common.{◌∙◌, refl, rules, ap, arith}
 use Rattle.record_format.specs.Written.{body, bodies}
-use Rattle.record_format.specs.Meaning.{item_of, left_of}
+use Rattle.record_format.specs.Meaning.{item_of}
+use Rattle.record_format.specs.Order.{left_of}
 use Rattle.record_format.proofs.Writing.{writing_begins, writing_goes_on, room_for_next}
 use Rattle.record_writer.proofs.pen.Pen.put_bodies.Goals as goal
 

@@ -1,5 +1,5 @@
 use Rattle.record_format.specs.Written.{bodies}
-use Rattle.record_format.specs.Meaning.{left_of}
+use Rattle.record_format.specs.Order.{left_of}
 use Rattle.record_format.proofs.Writing.{Writing}
 use Rattle.record_writer.specs.Pens.{SameBuffer}
 use Rattle.record_writer.proofs.pen.Pen.put_bodies.Given as goal

@@ -1,7 +1,8 @@
 use Rattle.std.proofs.Common.{refl, ◌≡◌, ◌+◌, ◌*◌, ◌++◌, length, ap, ◌∙◌, rules, arith}
 use Rattle.std.proofs.lemmas.List.{length-append}
 use Rattle.record_format.specs.Written.{entry, contents, bodies, body, first_body}
-use Rattle.record_format.specs.Meaning.{item_of, left_of}
+use Rattle.record_format.specs.Meaning.{item_of}
+use Rattle.record_format.specs.Order.{left_of}
 use Rattle.record_format.proofs.Writing.{wrote_same, writing_begins, writing_goes_on, room_for_next}
 use Rattle.record_format.proofs.Lengths.{length-body, length-contents}
 use Rattle.record_format.proofs.Sets.{bytes_of_entry}
@@ -9,7 +10,7 @@ use Rattle.record_writer.proofs.pen.Pen.put_contents.Goals as goal
 
 pub loop-set-init : goal.loop-set-init
 loop-set-init g c =
-    let count = c.count.ensures.answer in
+    let count = c.len-count.ensures.value ∙ ap length c.in_order-sets.ensures in
     let all : left_of g.R.NumberedSets.items c.into_iter-set-iterator.result ≡ g.R.NumberedSets.items c.args.run.now = search rules in
     (writing_begins (λ i. contents (first_body (count i)) (all i)), (refl, refl), (λ i. first_body (count i) + length (bodies (all i))))
 

@@ -1,6 +1,6 @@
 use Rattle.std.proofs.Common.{◌≡◌, ◌+◌, length}
 use Rattle.record_format.specs.Written.{contents, bodies, first_body}
-use Rattle.record_format.specs.Meaning.{left_of}
+use Rattle.record_format.specs.Order.{left_of}
 use Rattle.record_format.proofs.Writing.{Writing}
 use Rattle.record_writer.specs.Pens.{SameBuffer}
 use Rattle.record_writer.proofs.pen.Pen.put_contents.Given as goal
