@@ -276,6 +276,6 @@ none_past : {A B : Type 0} (f : A → B) (xs : List A) (n : ℕ) → (n < 1) ⊎
 none_past f xs n h = sym (numbered_past (map f xs) n (subst (λ (k : ℕ). (n < 1) ⊎ ((1 ≤ n) × (k < n))) (sym (length-map xs f)) h))
 
 -- what `get` finds at a place, by the number of that place
-pub got_by_number : {A B : Type 0} (f : A → B) (xs : List A) (n : ℕ) (r : Option (Bor A)) → 1 ≤ n → IsItemAt xs (n - 1) r → option_map f (option_copied r) ≡ numbered (map f xs) n
-got_by_number f xs n None l h = none_past f xs n (inr (l, omega (arith, h.3, l)))
-got_by_number f xs n (Some x) l h = ap (λ y. Some (f y)) h.1 ∙ numbered_at f xs n x.now l (omega (arith, h.3.0))
+pub got_by_number : {A B : Type 0} (f : A → B) (xs : List A) (n i : ℕ) (r : Option (Bor A)) → n ≡ i + 1 → IsItemAt xs i r → option_map f (option_copied r) ≡ numbered (map f xs) n
+got_by_number f xs n i None e h = none_past f xs n (inr (omega arith, omega (arith, h.3)))
+got_by_number f xs n i (Some x) e h = ap (λ y. Some (f y)) (h.1 ∙ ap (λ k. get_or xs k x.now) (let g : i ≡ n - 1 = omega arith in g)) ∙ numbered_at f xs n x.now (omega arith) (omega (arith, h.3.0))

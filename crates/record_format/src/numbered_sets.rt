@@ -26,6 +26,7 @@ impl NumberedSets for &[NumberedSet] {
         self.len()
     }
 
+    #[tactic(auto, using(crate::proofs::Numbering::got_by_number))]
     fn item(&self, n: usize) -> Option<NumberedSet> {
         self.get(n.checked_sub(1)?).copied()
     }
