@@ -27,8 +27,10 @@ pub fn play(bytes: &[u8], board: &mut Board) -> Result<usize, RecordFault>
 {
     let reader = Reader::new(bytes);
     let count = reader.count()?;
-    for item in in_order(&reader) {
-        item.set.play(board);
+    for i in 0..count {
+        if let Some(item) = reader.item(i + 1) {
+            item.set.play(board);
+        }
     }
     Ok(count)
 }
@@ -39,6 +41,8 @@ pub fn read(heap: Global, bytes: &[u8]) -> Result<Vec<NumberedSet>, RecordFault>
     ensures writes_back { IfOk result (λ sets. encoded (items_of sets.items) ≡ bytes.now) }
 {
     let reader = Reader::new(bytes);
-    reader.count()?;
-    Ok(in_order(&reader).collect(heap)?)
+    let count = reader.count()?;
+    let mut sets = Vec::with_capacity(heap, count)?;
+    sets.extend(in_order(&reader))?;
+    Ok(sets)
 }
