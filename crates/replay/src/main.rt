@@ -1,19 +1,37 @@
 // Reads a record on standard input and prints its write sets, and the tickets that they leave.
 #![tactic(auto)]
 
+ghost use Rattle.std.specs.Prelude.{◌≡◌, ◌≤◌, length, IfOk};
+
 use anyhow::anyhow;
 use listing::list;
 use record::{LONGEST, RecordFault};
+use std::io;
 use std::io::Read;
 
 // One byte more than the longest record, so that a longer input is seen to be too long and not read for ever.
-const MOST: u64 = LONGEST as u64 + 1;
+const MOST: usize = LONGEST + 1;
+
+/// Fills the buffer from the input as far as both go, and answers how many bytes came.
+// No `read_to_end`: it takes memory, and where there is none even an empty or a malformed input would be refused for that.
+fn fill(input: &mut impl Read, buffer: &mut [u8]) -> io::Result<usize>
+    ensures bound { IfOk result (λ n. n ≤ length buffer.new) }
+{
+    let mut n = 0;
+    while n < buffer.len() {
+        let got = input.read(&mut buffer[n..])?;
+        if got == 0 {
+            break;
+        }
+        n += got;
+    }
+    Ok(n)
+}
 
 fn main(rt: HostRuntime) -> anyhow::Result<()> {
-    let heap = rt.alloc();
-    let mut record = Vec::new(heap);
-    rt.stdin().take(MOST).read_to_end(&mut record)?;
-    match list(heap, &record) {
+    let mut buffer = [0u8; MOST];
+    let n = fill(&mut rt.stdin(), &mut buffer)?;
+    match list(rt.alloc(), &buffer[..n]) {
         Ok(text) => {
             print!(rt; "{text}")?;
             Ok(())
