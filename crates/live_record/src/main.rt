@@ -1,6 +1,8 @@
 // Opens the shop's bank, numbers write sets from two stations, and prints the run record of the live board: its bytes, and what reads back.
 #![tactic(auto)]
 
+ghost use Rattle.std.specs.Prelude.{◌≤◌, length, IfOk};
+
 use anyhow::anyhow;
 use banks::Bank;
 use calls::Call;
@@ -29,7 +31,9 @@ fn show<'a, B: Bank>(
     rt: &HostRuntime,
     board: &Middleware<B>,
     buffer: &'a mut [u8],
-) -> anyhow::Result<&'a [u8]> {
+) -> anyhow::Result<&'a [u8]>
+    ensures room { IfOk result (λ r. length r.now ≤ length buffer.old) }
+{
     match board.write_record(buffer) {
         Ok(n) => {
             let record = &buffer[..n];
