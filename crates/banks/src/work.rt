@@ -78,8 +78,7 @@ impl Work {
         ensures answer { result ≡ asked (B.Bank.stores bank.old) (replica_of self.now) (λ m. writes_answer m (place_of self.now) (pairs set.now)) }
         ensures after { B.Bank.stores bank.new ≡ changed (B.Bank.stores bank.old) (replica_of self.now) (λ m. writes_after m (place_of self.now) (pairs set.now)) }
     {
-        let all = set.pairs();
-        for pair in all {
+        for pair in set.pairs() {
             self.write(bank, pair.object, pair.value)?;
         }
         Ok(())

@@ -11,7 +11,7 @@ loop-pair-init g c = record { answer = refl; after = refl; there = λ h. absurd 
 pub returns-in_err-write : goal.returns-in_err-write
 returns-in_err-write g c =
     let v = c.args.self.now in
-    let all = c.pairs.ensures.answer in
+    let all = c.pairs-pair-items.ensures.answer in
     let s = write_stops _ v.replica v.place _ c.loop-pair.pair-index _ _ c.loop-pair-test.true c.write.ensures.after _ c.in_err-write.ensures.answer in
     let r = err_from_is_err_and c.from_residual.result c.from_residual.ensures.1 in
     record {
@@ -28,8 +28,8 @@ loop-pair-preserved g c =
 pub returns : goal.returns
 returns g c =
     let v = c.args.self.now in
-    let all = c.pairs.ensures.answer in
-    let some : 0 < c.loop-pair.pair-index = omega (arith, c.pairs.ensures.bounds) in
+    let all = c.pairs-pair-items.ensures.answer in
+    let some : 0 < c.loop-pair.pair-index = omega (arith, c.pairs-pair-items.ensures.bounds) in
     let d = writes_done _ v.replica v.place _ c.loop-pair.pair-index (c.loop-pair.invariant.there some) c.loop-pair-test.false in
     record {
       answer = d.0 ∙ c.loop-pair.invariant.answer ∙ ap (λ ps. asked (g.B.Bank.stores c.args.bank.now) v.replica (λ m. writes_answer m v.place ps)) all;

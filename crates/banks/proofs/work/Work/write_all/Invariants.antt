@@ -12,8 +12,8 @@ invariant-loop-pair g l =
     let ms = g.B.Bank.stores in
     let k = replica_of l.self in
     let p = place_of l.self in
-    let left = left_from l.all l.pair-index in
-    let all = map pair_of l.all in
+    let left = left_from l.pair-items l.pair-index in
+    let all = map pair_of l.pair-items in
     record {
       answer : asked (ms l.bank) k (λ m. writes_answer m p left) ≡ asked (ms l.initial.bank) k (λ m. writes_answer m p all);
       after : changed (ms l.bank) k (λ m. writes_after m p left) ≡ changed (ms l.initial.bank) k (λ m. writes_after m p all);
