@@ -2,6 +2,7 @@
 #![tactic(auto)]
 
 pub mod answer;
+mod bytes;
 mod printing;
 
 pub use answer::{ANSWER_BYTES, Printed};

@@ -1,51 +1,24 @@
 // How long an answer is, and printing it.
-ghost use Rattle.std.specs.Prelude.{◌≡◌, ◌+◌, ◌≤◌, ◌++◌, length, decimal};
-ghost use Rattle.arrayvec.specs.ArrayString.{array_string_len};
-ghost use Rattle.answers.specs.Buffers.{WroteIfRoom};
-ghost use Rattle.answers.specs.Printing.{printed};
+ghost use Rattle.std.specs.Prelude.{◌≡◌, ◌≤◌, length};
+ghost use Rattle.answers.specs.Buffers.{Wrote, WroteIfRoom};
+ghost use Rattle.answers.specs.Printing.{words, printed};
 
-use crate::answer::{ANSWER_BYTES, Printed};
-use arrayvec::ArrayString;
-use itoa::Buffer;
-
-// The parts of an answer are pushed, and not written by `write!`: by its contract that may fail, and printing cannot.
-
-/// Adds a word and then a number in decimal.
-fn push_numbered(text: &mut ArrayString<ANSWER_BYTES>, word: &str, n: u32)
-    requires { array_string_len text.old + length word.now + 10 ≤ 32 }
-    ensures bytes { text.new.bytes ≡ text.old.bytes ++ (word.now ++ decimal n) }
-    ensures most { array_string_len text.new ≤ array_string_len text.old + length word.now + 10 }
-{
-    text.push_str(word);
-    text.push_str(Buffer::new().format(n));
-}
+use crate::answer::Printed;
+use crate::bytes::{digits, put, put_numbered};
 
 impl Printed {
-    /// The answer's words and its end of line.
-    fn text(self) -> ArrayString<ANSWER_BYTES>
-        ensures { result.bytes ≡ printed self }
-    {
-        let mut text = ArrayString::new();
-        match self {
-            Printed::Ok => text.push_str("ok"),
-            Printed::OkNumber(n) => push_numbered(&mut text, "ok ", n),
-            Printed::OkRead => text.push_str("ok read"),
-            Printed::Abort(n) => push_numbered(&mut text, "abort ", n),
-            Printed::No { number, line } => {
-                push_numbered(&mut text, "no ", number);
-                push_numbered(&mut text, " ", line);
-            }
-        }
-        text.push('\n');
-        text
-    }
-
     /// How many bytes the answer has, its end of line among them: at most 32.
     pub fn length(self) -> usize
         ensures answer { result ≡ length (printed self) }
         ensures law { result ≤ 32 }
     {
-        self.text().len()
+        match self {
+            Printed::Ok => 3,
+            Printed::OkNumber(n) => 4 + digits(n),
+            Printed::OkRead => 8,
+            Printed::Abort(n) => 7 + digits(n),
+            Printed::No { number, line } => 5 + digits(number) + digits(line),
+        }
     }
 
     /// Prints the answer at a place of the buffer, and answers where it ends. Without room for all of it nothing is written.
@@ -53,12 +26,32 @@ impl Printed {
         ensures bytes { WroteIfRoom buf.old at (printed self) buf.new result }
         ensures law { length (printed self) ≤ 32 }
     {
-        let text = self.text();
-        let end = at.checked_add(text.len())?;
-        if buf.len() < end {
+        let length = self.length();
+        let room = buf.len().checked_sub(at)?;
+        if room < length {
             return None;
         }
-        buf[at..end].copy_from_slice(text.as_bytes());
+        let end = at + length;
+        let words_end = put(buf, end, b"\n");
+        self.put_words(buf, words_end);
         Some(end)
+    }
+
+    /// Writes the answer's words so that they end at a place, and answers where they begin.
+    fn put_words(self, buf: &mut [u8], end: usize) -> usize
+        requires room { length (words self) ≤ end }
+        requires within { end ≤ length buf.old }
+        ensures bytes { Wrote buf.old result (words self) buf.new end }
+    {
+        match self {
+            Printed::Ok => put(buf, end, b"ok"),
+            Printed::OkNumber(n) => put_numbered(buf, end, b"ok ", n),
+            Printed::OkRead => put(buf, end, b"ok read"),
+            Printed::Abort(n) => put_numbered(buf, end, b"abort ", n),
+            Printed::No { number, line } => {
+                let middle = put_numbered(buf, end, b" ", line);
+                put_numbered(buf, middle, b"no ", number)
+            }
+        }
     }
 }

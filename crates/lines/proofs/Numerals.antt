@@ -1,13 +1,16 @@
 -- The decimal digits of a number of 32 bits, and the number that digits spell.
-use Rattle.std.proofs.Common.{◌≡◌, ◌≢◌, ℕ, ◌^◌, ◌<◌, ◌≤◌, true, false, ◌&&◌, eqb, ltb, nat_eq, List, [], ◌∷◌, length, get_or, Some, None, Ok, Err, decimal, Option, Result, sym, refl, ap, ◌∙◌, subst, inl, inr, arith}
-use Rattle.std.specs.List.{starts_with}
+use Rattle.std.proofs.Common.{◌≡◌, ℕ, ◌+◌, ◌-◌, ◌*◌, ◌^◌, ◌<◌, ◌≤◌, true, ◌&&◌, eqb, ltb, List, [], ◌∷◌, length, get_or, take, Some, None, Ok, Err, decimal, Option, Result, sym, refl, ap, ◌∙◌, subst, inl, inr, arith, lit<}
+use Rattle.std.specs.Str.Parse.{AllDigits, digits_value}
+use Rattle.std.specs.Char.{digit_value}
+use Rattle.std.specs.Int.{IsInRange}
+use Rattle.std.proofs.lemmas.Bool.Decides.{nat_tests}
+use Rattle.std.proofs.lemmas.List.{take_all, length-take-le}
+use Rattle.std.proofs.lemmas.Int.Digits.{digits_value-lt, digits_more, digits_value_more}
 use Rattle.std.specs.Result.{OkIff, result_ok}
-use Rattle.std.specs.Str.{IsUtf8}
-use Rattle.std.specs.Str.Parse.{AllDigits, digits_value, ParsesUnsigned}
+use native.Mathlib.Nat.{pow-le-pow_right}
 use Rattle.std.proofs.lemmas.Bool.{false≢true, cases_eq, cond-true, cond_both, and_parts, and_from, eqb-true, eq-eqb, ltb-true, lt-ltb}
-use Rattle.std.proofs.lemmas.Str.{IsUtf8-from_ascii}
-use Rattle.std.proofs.lemmas.Str.Parse.{numerals_by_value, tells_digits, digit_at, parse_plain}
-use Rattle.std.proofs.lemmas.Fmt.{decimal_nonempty, length-decimal-le, decimal_is_IsNumeral, decimal_digit, first_decimal, decimal-digits_value, IsAscii-from_digits}
+use Rattle.std.proofs.lemmas.Str.Parse.{numerals_by_value, tells_digits, digit_at}
+use Rattle.std.proofs.lemmas.Fmt.{decimal_nonempty, length-decimal-le, decimal_is_IsNumeral, decimal_digit, first_decimal, decimal-digits_value}
 use Rattle.lines.specs.Numerals.{same, spelled_by, numeral}
 use Rattle.lines.proofs.Options.{none_is_not_some, same_in_some}
 
@@ -84,34 +87,48 @@ nothing bs (Some n) no-n = absurd (no-n n refl)
 pub nothing_is_read : (bs : List ℕ) → ((n : ℕ) → n < 2 ^ 32 → bs ≡ decimal n → ⊥) → numeral bs ≡ None
 nothing_is_read bs none = nothing bs (numeral bs) (λ n e. let r = what_is_read_is_decimal bs n e in none n r.narrow r.is)
 
--- ---- read by `parse`
+-- ---- read digit by digit
 
-plus_in_front : (bs : List ℕ) → true ≡ starts_with nat_eq bs (43 ∷ []) → get_or bs 0 0 ≡ 43
-plus_in_front [] e = absurd (false≢true (sym e))
-plus_in_front (b ∷ bs) e = sym (eqb-true 43 b (and_parts (eqb 43 b) true (sym e)).0)
+-- the first i bytes are digits, and v is their value
+pub record Read (bs : List ℕ) (i v : ℕ) : Type 0 where
+  pub all : AllDigits 10 (take i bs)
+  pub value : v ≡ digits_value 10 (take i bs)
 
-no_plus_in_front : (bs : List ℕ) → false ≡ starts_with nat_eq bs (43 ∷ []) → get_or bs 0 0 ≢ 43
-no_plus_in_front [] e plus = absurd (omega arith)
-no_plus_in_front (b ∷ bs) e plus = false≢true (e ∙ and_from (eqb 43 b) true (eq-eqb 43 b (sym plus)) refl)
+pub one_digit_more : (bs : List ℕ) (i v d : ℕ) → i < length bs → d ≡ digit_value (get_or bs i 0) → d < 10 → Read bs i v → Read bs (i + 1) (v * 10 + d)
+one_digit_more bs i v d h is small r = record {
+  all = digits_more 10 bs i h r.all (subst (λ x. x < 10) is small);
+  value = (λ j. r.value j * 10 + is j) ∙ sym (digits_value_more 10 bs i h);
+}
 
-pub a_plus_is_not_read : (bs : List ℕ) → true ≡ starts_with nat_eq bs (43 ∷ []) → None ≡ numeral bs
-a_plus_is_not_read bs e = sym (nothing_is_read bs (λ n h is.
-    let s = spelled bs n h is in
-    let first = digit_at bs 0 s.all s.some in
-    let plus = plus_in_front bs e in
-    omega arith))
+-- fewer than ten digits are below ten to the nine
+pub digits_before_the_last : (ds : List ℕ) (i : ℕ) → AllDigits 10 (take i ds) → i < length ds → length ds ≤ 10 → digits_value 10 (take i ds) < 1000000000
+digits_before_the_last ds i all h few =
+    let a = digits_value-lt 10 (take i ds) all in
+    let b = length-take-le i ds (omega arith) in
+    let p = pow-le-pow_right {n = 10} (lit< tt) {i = length (take i ds)} {j = 9} (omega arith) in
+    omega arith
+
+pub no_such_length_is_read : (bs : List ℕ) → (0 < length bs → 10 < length bs) → None ≡ numeral bs
+no_such_length_is_read bs none_or_many = sym (nothing_is_read bs (λ n h is. let s = spelled bs n h is in omega (arith, s.few, none_or_many s.some)))
 
 pub a_leading_zero_is_not_read : (bs : List ℕ) → 1 < length bs → get_or bs 0 0 ≡ 48 → None ≡ numeral bs
 a_leading_zero_is_not_read bs long zeroed = sym (nothing_is_read bs (λ n h is. let one = (spelled bs n h is).plain zeroed in omega arith))
 
-pub what_is_no_text_is_not_read : (bs : List ℕ) → ¬ (IsUtf8 bs) → None ≡ numeral bs
-what_is_no_text_is_not_read bs no-text = sym (nothing_is_read bs (λ n h is. no-text (IsUtf8-from_ascii bs (IsAscii-from_digits bs (spelled bs n h is).all))))
+digit_value_lem : (b : ℕ) → IsInRange 48 57 b → digit_value b ≡ b - 48
+digit_value_lem b h = grind (arith, nat_tests)
 
--- what `parse` reads of a text without a plus and leading zeros
-parsed_digits : {E : Type 0} (bs : List ℕ) (r : Result ℕ E) → (get_or bs 0 0 ≡ 48 → length bs ≤ 1) → OkIff r (AllDigits 10 bs × (0 < length bs) × (digits_value 10 bs < 2 ^ 32)) (digits_value 10 bs) → result_ok r ≡ numeral bs
-parsed_digits bs (Ok v) plain ((all, some, small), is) =
-    ap Some is ∙ sym (decimal_is_read_back bs (digits_value 10 bs) small (digits_spell_their_value bs all some (λ zeroed. let few = plain zeroed in omega arith) small))
-parsed_digits bs (Err e) plain none = sym (nothing_is_read bs (λ n h is. let s = spelled bs n h is in none (s.all, s.some, omega (arith, s.reads))))
+pub what_is_no_digit_is_not_read : (bs : List ℕ) (i : ℕ) → i < length bs → (digit_value (get_or bs i 0) < 10 → ⊥) → None ≡ numeral bs
+what_is_no_digit_is_not_read bs i h no-digit = sym (nothing_is_read bs (λ n small is.
+    let digit = digit_at bs i (spelled bs n small is).all h in
+    no-digit (omega (arith, digit, digit_value_lem _ digit))))
 
-pub read_by_parse : {E : Type 0} (bs : List ℕ) (r : Result ℕ E) → false ≡ starts_with nat_eq bs (43 ∷ []) → (get_or bs 0 0 ≡ 48 → length bs ≤ 1) → ParsesUnsigned 32 10 bs r → result_ok r ≡ numeral bs
-read_by_parse bs r no-plus plain parsed = parsed_digits bs r plain (parse_plain (numerals_by_value (AllDigits 10) tells_digits) 32 bs r parsed (no_plus_in_front bs no-plus))
+-- digits without leading zeros are read where their value is of 32 bits
+pub digits_are_read : {E : Type 0} (bs : List ℕ) (i v : ℕ) (r : Result ℕ E) → length bs ≤ i → 0 < length bs → (get_or bs 0 0 ≡ 48 → length bs ≤ 1) → Read bs i v → OkIff r (v < 2 ^ 32) v → result_ok r ≡ numeral bs
+digits_are_read bs i v (Ok w) whole some plain read (small, value) =
+    let all = take_all i bs whole in
+    let is : digits_value 10 bs ≡ w = ap (digits_value 10) (sym all) ∙ sym read.value ∙ sym value in
+    let spell = digits_spell_their_value bs (subst (AllDigits 10) all read.all) some (λ zeroed. let few = plain zeroed in omega arith) (omega (arith, is)) in
+    sym (decimal_is_read_back bs w (omega arith) (spell ∙ ap decimal is))
+digits_are_read bs i v (Err e) whole some plain read large =
+    let is : digits_value 10 bs ≡ v = ap (digits_value 10) (sym (take_all i bs whole)) ∙ sym read.value in
+    sym (nothing_is_read bs (λ n small spell. large (omega (arith, is, (spelled bs n small spell).reads))))
