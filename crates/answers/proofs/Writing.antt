@@ -1,6 +1,6 @@
 -- One write into a buffer after another is one write of both.
 use Rattle.std.proofs.Common.{◌≡◌, ℕ, ◌+◌, ◌<◌, ◌≤◌, List, [], ◌∷◌, ◌++◌, length, take, drop, set, sym, ap, ◌∙◌, subst, add-one, arith}
-use Rattle.std.proofs.lemmas.List.{append_assoc, take_at, drop_at, drop-drop, take-take, take-append-le, take-append-drop, length-append, length-take-le, set_split}
+use Rattle.std.proofs.lemmas.List.{append_assoc, take_at, drop_at, drop-drop, take-take, take-append-le, length-append, length-take-le, set_split}
 use Rattle.answers.specs.Buffers.{written, Wrote}
 
 module _ (b : List ℕ) (at : ℕ) (xs : List ℕ) (room : at + length xs ≤ length b) where
@@ -62,9 +62,5 @@ one_write_before_another {b} {b1} {b2} {at} {m} {end} {xs} {ys} room u v = recor
   ends = omega (arith, u.ends, v.ends, length-append xs ys);
 }
 
--- bytes that end at a place, with all before and behind them as it was
-pub wrote_up_to_the_end : {b b' xs : List ℕ} {at end : ℕ} → at + length xs ≡ end → drop at b' ≡ xs ++ drop end b → take at b' ≡ take at b → Wrote b at xs b' end
-wrote_up_to_the_end {b} {b'} {xs} {at} {end} ends after before = record {
-  after = sym (take-append-drop at b') ∙ (λ i. before i ++ after i) ∙ ap (λ k. take at b ++ (xs ++ drop k b)) (sym ends);
-  ends = sym ends;
-}
+pub ends_there : {b b' xs : List ℕ} {at end end' : ℕ} → end ≡ end' → Wrote b at xs b' end → Wrote b at xs b' end'
+ends_there {b} {b'} {xs} {at} {end} {end'} same w = record { after = w.after; ends = omega (arith, w.ends) }

@@ -1,9 +1,7 @@
 // Bytes written into a lent buffer so that they end at a place: the parts of an answer go in from its last to its first, as
-// the library writes the digits of a number. The callers have seen that there is room.
+// the digits of a number come. The callers have seen that there is room.
 ghost use Rattle.std.specs.Prelude.{◌≡◌, ◌+◌, ◌≤◌, ◌++◌, length, decimal};
 ghost use Rattle.answers.specs.Buffers.{Wrote};
-
-use itoa::write_digits;
 
 /// How many decimal digits a number has.
 pub(crate) fn digits(n: u32) -> usize
@@ -28,13 +26,18 @@ pub(crate) fn put(buf: &mut [u8], end: usize, bytes: &[u8]) -> usize
 }
 
 /// Writes the number's decimal digits so that they end at a place, and answers where they begin.
-#[tactic(auto, using(crate::proofs::Writing::wrote_up_to_the_end))]
 pub(crate) fn put_decimal(buf: &mut [u8], end: usize, n: u32) -> usize
     requires room { length (decimal n) ≤ end }
     requires within { end ≤ length buf.old }
     ensures bytes { Wrote buf.old result (decimal n) buf.new end }
 {
-    write_digits(u64::from(n), buf, end)
+    let last = end - 1;
+    if n < 10 {
+        buf[last] = b'0' + n as u8;
+        return last;
+    }
+    buf[last] = b'0' + (n % 10) as u8;
+    put_decimal(buf, last, n / 10)
 }
 
 /// Writes a word and then a number, so that they end at a place, and answers where they begin.
