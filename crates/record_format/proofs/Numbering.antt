@@ -1,5 +1,5 @@
 -- An item of a record that reads stands where its entry in the contents says.
-use Rattle.std.proofs.Common.{◌≡◌, ℕ, zero, suc, ◌+◌, ◌-◌, ◌*◌, ◌<◌, ◌≤◌, true, cond, ◌⊎◌, List, [], ◌∷◌, map, length, get_or, take, drop, Some, None, Ok, Err, Option, Result, Bor, sym, refl, ap, ◌∙◌, subst, inl, inr, add-one, arith}
+use Rattle.std.proofs.Common.{◌≡◌, ℕ, zero, suc, ◌+◌, ◌-◌, ◌*◌, ◌<◌, ◌≤◌, true, cond, ◌⊎◌, List, [], ◌∷◌, ◌++◌, map, length, get_or, take, drop, Some, None, Ok, Err, Option, Result, Bor, sym, refl, ap, ◌∙◌, subst, inl, inr, add-one, arith}
 use Rattle.std.specs.Option.{option_map, option_copied}
 use Rattle.std.specs.Slice.{IsItemAt}
 use Rattle.std.proofs.lemmas.Bool.{cond-true, cond-false, cases_Bool}
@@ -252,6 +252,14 @@ next_suc (y ∷ xs) (suc i) x e = next_suc xs i x e
 
 pub next_item : {A : Type 0} (xs : List A) (i : ℕ) (x : A) → Some x ≡ numbered xs (i + 1) → drop i xs ≡ x ∷ drop (i + 1) xs
 next_item xs i x e = next_suc xs i x (e ∙ ap (numbered xs) (add-one i)) ∙ ap (λ k. x ∷ drop k xs) (sym (add-one i))
+
+taken_suc : {A : Type 0} (xs : List A) (i : ℕ) (x : A) → Some x ≡ numbered xs (suc i) → take (suc i) xs ≡ take i xs ++ x ∷ []
+taken_suc [] i x e = absurd (let z : ◌≡◌ {A = ℕ} 0 1 = cc in omega arith)
+taken_suc (y ∷ xs) zero x e = let f : x ≡ y = cc in ap (λ w. w ∷ []) (sym f)
+taken_suc (y ∷ xs) (suc i) x e = ap (λ ys. y ∷ ys) (taken_suc xs i x e)
+
+pub next_taken : {A : Type 0} (xs : List A) (i : ℕ) (x : A) → Some x ≡ numbered xs (i + 1) → take (i + 1) xs ≡ take i xs ++ x ∷ []
+next_taken xs i x e = ap (λ k. take k xs) (add-one i) ∙ taken_suc xs i x (e ∙ ap (numbered xs) (add-one i))
 
 none_suc : {A : Type 0} (xs : List A) (i : ℕ) → None ≡ numbered xs (suc i) → length xs ≤ i
 none_suc [] i e = omega arith
