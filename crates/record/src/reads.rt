@@ -27,6 +27,7 @@ pub fn play(bytes: &[u8], board: &mut Board) -> Result<usize, RecordFault>
 {
     let reader = Reader::new(bytes);
     let count = reader.count()?;
+    // By number, and not over `in_order`: so the order is written here, and the edit that turns it round is refused.
     for i in 0..count {
         if let Some(item) = reader.item(i + 1) {
             item.set.play(board);
