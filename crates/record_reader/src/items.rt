@@ -13,6 +13,8 @@ use record_format::{LAST_HOME, NumberedSet, PAIR_BYTES, S_BYTES};
 use tickets::WriteSet;
 
 /// The write set that the pairs make, where they are one within the tops.
+// Inlined, as `item_at` is: handed on through calls, a write set of 136 bytes is copied twice, which takes longer than the reading.
+#[inline(always)]
 fn write_set(pairs: &[[u8; PAIR_BYTES]]) -> Option<WriteSet>
     ensures answer { set_pairs result ≡ accepted (map pair_in pairs.now) }
 {
@@ -28,6 +30,7 @@ fn write_set(pairs: &[[u8; PAIR_BYTES]]) -> Option<WriteSet>
 
 /// Item `n` with its body at a place, where it stands there.
 // It takes the whole record and the place, not the part that begins there: the entry lies before it, and its offset is held against the place.
+#[inline(always)]
 pub(crate) fn item_at(bytes: &[u8], n: usize, at: usize) -> Option<NumberedSet>
     requires le_n { 1 ≤ n }
     requires n_in_bounds { first_body n ≤ length bytes.now }
