@@ -9,6 +9,7 @@ use Rattle.record_format.specs.Reading.{numbered}
 use Rattle.ledger.specs.declared.numbered.Numbered.{Numbered}
 use Rattle.ledger.specs.declared.write_sets.WriteSets.{WriteSets}
 use Rattle.ledger.specs.Words.{up_to}
+use Rattle.ledger.specs.Records.{item_of_set, items_of_sets}
 use Rattle.ledger.specs.Sets.{SetModel, set_of, sets_of, no_set, nth_set, marked_set}
 use Rattle.ledger.proofs.Upward.{up_to_yes, up_to_zero, up_to_past}
 
@@ -28,6 +29,13 @@ copied_get xs i (Some x) some item = sym (slice_get_read xs (length xs) i x.now 
 pub numbered-map : {X Y : Type 0} (f : X → Y) (xs : List X) (n : ℕ) → numbered (map f xs) n ≡ option_map f (numbered xs n)
 numbered-map f xs zero = refl
 numbered-map f xs (suc n) = numbered_suc (map f xs) n ∙ slice_get-map f xs n ∙ sym (ap (option_map f) (numbered_suc xs n))
+
+-- the item of a number is its write set without whose it is and where it is applied
+pub item_is : (us : WriteSets) (n : ℕ) (x : Numbered) (o : Option Numbered) → o ≡ Some x → o ≡ numbered (vec_items us.given.items) n → Some (item_of_set (set_of x)) ≡ numbered (items_of_sets (sets_of us)) n
+item_is us n x o some e = sym (numbered-map item_of_set (sets_of us) n ∙ ap (option_map item_of_set) (numbered-map set_of (vec_items us.given.items) n ∙ ap (option_map set_of) (sym e ∙ some)))
+
+pub no_item : (us : WriteSets) (n : ℕ) (o : Option Numbered) → o ≡ None → o ≡ numbered (vec_items us.given.items) n → None ≡ numbered (items_of_sets (sets_of us)) n
+no_item us n o none e = sym (numbered-map item_of_set (sets_of us) n ∙ ap (option_map item_of_set) (numbered-map set_of (vec_items us.given.items) n ∙ ap (option_map set_of) (sym e ∙ none)))
 
 -- a number that was given has its element
 pub numbered_given : {X : Type 0} (xs : List X) (n : ℕ) (d : X) → numbered xs n ≡ cond (up_to (length xs) n) (Some (get_or xs (n - 1) d)) None

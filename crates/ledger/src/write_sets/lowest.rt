@@ -38,7 +38,8 @@ impl WriteSets {
     pub fn lowest_clash(&self, s: u16, set: &WriteSet) -> Option<u16>
         ensures answer { result ≡ lowest_clash (sets_of self.now) s (pairs set.now) }
     {
-        first_clash(&self.given.items, s, set).map(|i| number(usize::from(s) + i))
+        let from = usize::from(s);
+        first_clash(&self.given.items, from, set).map(|i| number(from + i))
     }
 
     /// The lowest number below n that is not applied at a replica and clashes with a write set.

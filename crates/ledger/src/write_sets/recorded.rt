@@ -12,6 +12,7 @@ impl NumberedSets for WriteSets {
         self.given.len()
     }
 
+    #[tactic(auto, using(crate::proofs::Items::item_is, crate::proofs::Items::no_item))]
     fn item(&self, n: usize) -> Option<NumberedSet> {
         let x = self.given.get(n)?;
         Some(NumberedSet {

@@ -16,13 +16,11 @@ fn behind(sets: &[Numbered], s: usize) -> &[Numbered]
 }
 
 // Behind the first s, one that clashes with a write set.
-pub(crate) fn first_clash(sets: &[Numbered], s: u16, set: &WriteSet) -> Option<usize>
+pub(crate) fn first_clash(sets: &[Numbered], s: usize, set: &WriteSet) -> Option<usize>
     ensures place { result ≡ position (λ (x : Held). clashes (pairs set.now) (set_of x)) (drop s sets.now) }
     ensures within { IfSome result (λ i. s + i < length sets.now) }
 {
-    behind(sets, usize::from(s))
-        .iter()
-        .position(|x| x.clashes(set))
+    behind(sets, s).iter().position(|x| x.clashes(set))
 }
 
 // Of the first so many, one that is not applied at a replica and clashes with a write set.

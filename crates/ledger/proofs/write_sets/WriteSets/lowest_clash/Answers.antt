@@ -13,6 +13,7 @@ unfolding lowest_clash
 returns c =
     let p = clashes (pairs c.args.set.now) in
     let s = c.args.s in
+    let from : c.from-from.result ≡ s = search rules in
     let held : c.deref.result.now ≡ vec_items c.args.self.now.given.items = c.deref.ensures.value in
     let number : c.map.result ≡ option_map (λ i. s + i + 1) c.first_clash.result = search rules in
-    record { answer = number ∙ ap (option_map (λ i. s + i + 1)) (c.first_clash.ensures.place ∙ ap (λ xs. position (λ (x : Numbered). p (set_of x)) (drop s xs)) held) ∙ sym (lowest_above set_of p (vec_items c.args.self.now.given.items) no_set s) }
+    record { answer = number ∙ ap (option_map (λ i. s + i + 1)) (c.first_clash.ensures.place ∙ (λ r. position (λ (x : Numbered). p (set_of x)) (drop (from r) (held r)))) ∙ sym (lowest_above set_of p (vec_items c.args.self.now.given.items) no_set s) }
