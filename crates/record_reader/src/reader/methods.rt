@@ -45,6 +45,8 @@ impl<'a> Reader<'a> {
     }
 
     /// The item of a number, counted from 1; none where there is no such item.
+    // Inlined, as what it goes through is: else its write set is copied on the way to a loop over the items.
+    #[inline(always)]
     pub fn item(&self, n: usize) -> Option<NumberedSet>
         ensures answer { option_map item_of result ≡ numbered (items_in (read_from self.now)) n }
     {
@@ -73,6 +75,7 @@ impl<'a> NumberedSets for Reader<'a> {
         self.verdict.unwrap_or(0)
     }
 
+    #[inline(always)]
     fn item(&self, n: usize) -> Option<NumberedSet> {
         Reader::item(self, n)
     }
